@@ -1,0 +1,10 @@
+//! Representations of numbers, types of values, and the small lists that every layer speaks of.
+#![tactic(auto)]
+
+mod lists;
+mod rep;
+mod ty;
+
+pub use lists::{Bytes, CallList, Name};
+pub use rep::{Rep, wider, wrap};
+pub use ty::{Ty, TyList, assignable, copy, copy_all, fits, same, type_text};
