@@ -48,25 +48,28 @@ impl<T> List<T> {
         kept
     }
 
+    /// The items, in order.
     pub fn as_slice(&self) -> &[T]
         ensures { result.now ≡ self.now }
     {
         self.kept.as_slice()
     }
 
+    /// How many items there are.
     pub fn len(&self) -> usize
         ensures { result ≡ length self.now }
     {
         self.kept.len()
     }
 
+    /// Whether there is no item.
     pub fn is_empty(&self) -> bool
         ensures { IsTrue result ↔ (self.now ≡ []) }
     {
         self.kept.is_empty()
     }
 
-    /// The item at a place, counted from 0.
+    /// The item at a place, counted from 0; none past the end.
     pub fn get(&self, at: usize) -> Option<&T>
         ensures value { option_copied result ≡ slice_get self.now at }
         ensures within { OnSome result (at < length self.now) }
@@ -74,7 +77,7 @@ impl<T> List<T> {
         self.kept.get(at)
     }
 
-    /// Takes the last item off.
+    /// Takes the last item off; none where the list is empty.
     pub fn pop(&mut self) -> Option<T>
         ensures { MatchOption result ((self.old ≡ []) × (self.new ≡ [])) (λ last. self.old ≡ self.new ++ last ∷ []) }
     {
@@ -135,5 +138,34 @@ impl<T: Copy> List<T> {
         Ok(List {
             kept: Vec::from_slice(alloc, items)?,
         })
+    }
+}
+
+#[cfg(test)]
+mod tests {
+    use super::*;
+    use std::test::Fail;
+
+    #[test]
+    fn edits_a_list(rt: HostRuntime) -> Result<(), Fail> {
+        let alloc = rt.alloc();
+        let mut list = List::from_slice(alloc, &[1u32, 2, 3])?;
+        list.push(4)?;
+        assert_eq!(rt; list.replace(1, 20), 2);
+        list.set(0, 10);
+        assert_eq!(rt; list.as_slice(), [10u32, 20, 3, 4].as_slice());
+        assert_eq!(rt; list.get(2).copied(), Some(3));
+        assert_eq!(rt; list.get(4).copied(), None);
+        assert_eq!(rt; list.pop(), Some(4));
+
+        let mut whole = List::new(alloc);
+        assert!(rt; whole.is_empty());
+        whole.push(0)?;
+        whole.append(list)?;
+        assert_eq!(rt; whole.len(), 4);
+        whole.truncate(3);
+        let items = List::from_vec(whole.into_vec());
+        assert_eq!(rt; items.as_slice(), [0u32, 10, 20].as_slice());
+        Ok(())
     }
 }

@@ -4,6 +4,8 @@
 mod lists;
 mod names;
 mod rep;
+#[cfg(test)]
+mod tests;
 mod ty;
 
 pub use lists::{Bytes, CallList, Name};

@@ -8,20 +8,30 @@ use crate::rep::Rep;
 use g_lists::{Boxed, List};
 use std::alloc::{AllocError, Global};
 
+/// The type of a value. A listing writes types that are at most 8 deep, whose arrays hold no arrays
+/// and whose clusters have 1 to 64 elements.
 #[derive(Drop)]
 pub enum Ty {
+    /// A whole number.
     Num(Rep),
+    /// TRUE or FALSE.
     Bool,
+    /// A text of bytes.
     Str,
+    /// An array of elements of one type.
     Arr(Boxed<Ty>),
+    /// A fixed number of elements, each of its own type.
     Cluster(List<Ty>),
+    /// A reference to a queue of elements of the type.
     QueueRef(Boxed<Ty>),
+    /// A reference to a value of the type.
     ValueRef(Boxed<Ty>),
 }
 
+/// Types in an order, as those of a cluster's elements.
 pub type TyList = List<Ty>;
 
-/// Whether the types are equal.
+/// Whether the types are equal. Takes no memory.
 #[cycle(same)]
 pub fn same(a: &Ty, b: &Ty) -> bool
     ensures { IsTrue result ↔ (a.now ≡ b.now) }
@@ -73,7 +83,7 @@ fn same_all(xs: &[Ty], ys: &[Ty]) -> bool
     true
 }
 
-/// Another owner of the same type.
+/// Another owner of the same type. Only want of memory refuses it.
 #[cycle(copy)]
 pub fn copy(alloc: Global, ty: &Ty) -> Result<Ty, AllocError>
     ensures { IfOk result (λ t. t ≡ ty.now) }
@@ -97,6 +107,7 @@ fn copy_boxed(alloc: Global, item: &Boxed<Ty>) -> Result<Boxed<Ty>, AllocError>
     Boxed::new(alloc, item)
 }
 
+/// Other owners of the same types. Only want of memory refuses it.
 #[cycle(copy)]
 pub fn copy_all(alloc: Global, items: &[Ty]) -> Result<TyList, AllocError>
     ensures { IfOk result (λ all. all ≡ items.now) }
@@ -126,14 +137,16 @@ fn is_nums(ty: &Ty) -> bool
     }
 }
 
-/// Whether a value of the first type goes where one of the second is wanted.
+/// Whether a value of the first type goes where one of the second is wanted: the types are equal, both
+/// are numbers, or both are arrays of numbers. Takes no memory.
 pub fn assignable(from: &Ty, to: &Ty) -> bool
     ensures { IsTrue result ↔ spec.IsAssignable from.now to.now }
 {
     (is_num(from) && is_num(to)) || (is_nums(from) && is_nums(to)) || same(from, to)
 }
 
-/// The canonical text.
+/// The canonical text, as `{i32, [str], queue(u8)}`: one space after each comma and no other. Only want
+/// of memory refuses it.
 pub fn type_text(alloc: Global, ty: &Ty) -> Result<Bytes, AllocError>
     ensures { IfOk result (λ text. text ≡ spec.text ty.now) }
 {
@@ -201,7 +214,8 @@ fn push_texts(out: &mut Vec<u8>, items: &[Ty]) -> Result<(), AllocError>
     Ok(())
 }
 
-/// Whether the type is at most so many deep.
+/// Whether the type is at most so many deep; one without parts is 1 deep. Takes no memory, and no more
+/// than so many calls within one another.
 #[cycle(fits)]
 #[tactic(auto, using(crate::proofs::Depths::depths))]
 pub fn fits(ty: &Ty, levels: usize) -> bool

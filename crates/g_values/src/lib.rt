@@ -5,6 +5,8 @@ mod coercion;
 mod num;
 mod nums;
 mod primitive;
+#[cfg(test)]
+mod tests;
 mod value;
 mod values;
 
