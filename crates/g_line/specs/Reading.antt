@@ -12,6 +12,9 @@ abbrev pub OnUsage : (ℕ → Type 0) → LineRefused → Type 0
 OnUsage P (Usage k) = P k
 OnUsage P (Memory e) = Unit {0}
 
+abbrev pub IsSettingOf : Word → Setting → Type 0
+IsSettingOf w s = (is_word s.name ≡ true) × (w ≡ setting_word s)
+
 abbrev pub IsNoSetting : Word → Type 0
 IsNoSetting w = (s : Setting) → is_word s.name ≡ true → w ≢ setting_word s
 

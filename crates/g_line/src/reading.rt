@@ -1,11 +1,10 @@
 //! Words, read from left to right.
 
-ghost use Rattle.std.specs.Prelude.{◌≡◌, ◌≤◌, IfOk, IfErr, MatchOption, Some, map, slice_get, length, codes, true};
+ghost use Rattle.std.specs.Prelude.{◌≡◌, ◌≤◌, IfOk, IfErr, MatchOption, Some, map, slice_get, length, codes};
 ghost use Rattle.std.specs.String.{string_bytes};
-ghost use Rattle.g_types.specs.Names.{is_word};
-ghost use Rattle.g_line.specs.Forms.{HasLine, setting_word};
+ghost use Rattle.g_line.specs.Forms.{HasLine};
 ghost use Rattle.g_line.specs.Usage.{IsOnlyLine, IsRefusal};
-ghost use Rattle.g_line.specs.Reading.{OnUsage, IsNoSetting, AreSettings, IsFirstOther, IsMain, IsNoMain};
+ghost use Rattle.g_line.specs.Reading.{OnUsage, IsNoSetting, IsSettingOf, AreSettings, IsFirstOther, IsMain, IsNoMain};
 
 use crate::forms::{Line, LineRefused, Setting};
 use g_lists::List;
@@ -14,7 +13,7 @@ use std::alloc::{AllocError, Global};
 
 /// The setting of a word, cut at its first `=`.
 fn read_setting(alloc: Global, word: &str) -> Result<Option<Setting>, AllocError>
-    ensures { IfOk result (λ read. MatchOption read (IsNoSetting word.now) (λ s. (is_word s.name ≡ true) × (word.now ≡ setting_word s))) }
+    ensures { IfOk result (λ read. MatchOption read (IsNoSetting word.now) (IsSettingOf word.now)) }
 {
     let Some((name, text)) = word.split_once('=') else {
         return Ok(None);
@@ -34,7 +33,7 @@ fn read_settings(
     first: usize,
 ) -> Result<List<Setting>, LineRefused>
     requires { first ≤ length words.now }
-    ensures read { IfOk result (λ settings. AreSettings (map string_bytes words.now) first (length words.now) settings) }
+    ensures read { IfOk result (AreSettings (map string_bytes words.now) first (length words.now)) }
     ensures refused { IfErr result (OnUsage (IsFirstOther (map string_bytes words.now) first)) }
 {
     let mut settings = Vec::new(alloc);
@@ -49,7 +48,7 @@ fn read_settings(
 
 /// The MAIN of a command.
 fn read_main(alloc: Global, words: &[String]) -> Result<Name, LineRefused>
-    ensures read { IfOk result (λ main. IsMain (map string_bytes words.now) main) }
+    ensures read { IfOk result (IsMain (map string_bytes words.now)) }
     ensures refused { IfErr result (OnUsage (IsNoMain (map string_bytes words.now))) }
 {
     let Some(main) = words.get(1) else {
