@@ -20,7 +20,8 @@ use Rattle.g_values.specs.Value.{type_of, type_step}
 use Rattle.g_values.specs.Coerce.{coerced, coerced_numbers, coerced_at}
 use Rattle.g_values.specs.Proper.{IsProper, IsLayer}
 use Rattle.g_values.specs.Typed.{IsOfType}
-use Rattle.g_values.proofs.ProperLemmas.{proper_num, proper_nums, few_numbers, type-Num, type-Nums}
+use Rattle.g_values.proofs.TypesOf.{type-Num, type-Nums}
+use Rattle.g_values.proofs.ProperLemmas.{proper_num, proper_nums, few_numbers}
 
 -- what a coerced value is
 pub coerced-Num : (x : Num) (r : Rep) → coerced (value.Num x) (ty.Num r) ≡ value.Num (num_of r x.n)

@@ -1,5 +1,5 @@
 -- A default is of its type, and proper where a listing can write the type.
-use Rattle.std.proofs.Common.{◌≡◌, ◌≤◌, ℕ, false, List, [], ◌∷◌, map, get_or, refl, ap, sym, ◌∙◌, subst, arith, None, pos, Ok, Err}
+use Rattle.std.proofs.Common.{◌≡◌, ◌≤◌, false, List, [], ◌∷◌, map, get_or, refl, ap, sym, ◌∙◌, subst, arith, None, pos, Ok, Err}
 use Rattle.std.specs.Prelude.{Result, IfOk}
 use Rattle.std.specs.declared.alloc.AllocError.{AllocError}
 use Rattle.std.specs.List.{All}
@@ -16,28 +16,17 @@ use Rattle.g_values.specs.declared.value.RefValue.{RefValue}
 use Rattle.g_values.specs.declared.value.Value.{Value}
 use Rattle.g_values.specs.declared.value.Value.TheVariants as value
 use Rattle.g_values.specs.declared.value.Value.TheOpen.{Value-F}
-use Rattle.g_values.specs.declared.value.Value.TheFolds.{fold-roll-Value, every_made-Value, map-Value}
+use Rattle.g_values.specs.declared.value.Value.TheFolds.{every_made-Value, map-Value}
 use Rattle.g_values.specs.declared.value.Value.TheViews.{roll-Value}
 use Rattle.g_values.specs.Number.{num_of}
 use Rattle.g_values.specs.Numbers.{empty}
-use Rattle.g_values.specs.Value.{type_of, type_step}
+use Rattle.g_values.specs.Value.{type_of}
 use Rattle.g_values.specs.Default.{default, empty_at}
 use Rattle.g_values.specs.Proper.{IsProper, IsLayer, IsWhole, IsCluster, is_array}
 use Rattle.g_values.specs.Spelled.{IsSpelled, IsTypeLayer, IsWholeType}
-use Rattle.g_values.proofs.ProperLemmas.{type-Num, type-Bool, type-Nums, type-Cluster, whole-made_cluster}
+use Rattle.g_values.proofs.TypesOf.{type-Num, type-Bool, type-Str, type-Nums, type-Arr, type-Cluster, type-Queue, type-Cell}
+use Rattle.g_values.proofs.ProperLemmas.{whole-made_cluster}
 use Rattle.g_values.proofs.Defaults.{default-Num, default-Bool, default-Str, default-Arr, default-QueueRef, default-ValueRef, default-Cluster}
-
-type-Str : (s : List ℕ) → type_of (value.Str s) ≡ ty.Str
-type-Str s = ap type_of (sym (value.rolls-Str s)) ∙ fold-roll-Value Ty type_step (Value-F.Str s)
-
-type-Arr : (xs : ArrOf Value) → type_of (value.Arr xs) ≡ ty.Arr xs.elem
-type-Arr xs = ap type_of (sym (value.rolls-Arr xs)) ∙ fold-roll-Value Ty type_step (Value-F.Arr xs)
-
-type-Queue : (r : RefValue) → type_of (value.Queue r) ≡ ty.QueueRef r.elem
-type-Queue r = ap type_of (sym (value.rolls-Queue r)) ∙ fold-roll-Value Ty type_step (Value-F.Queue r)
-
-type-Cell : (r : RefValue) → type_of (value.Cell r) ≡ ty.ValueRef r.elem
-type-Cell r = ap type_of (sym (value.rolls-Cell r)) ∙ fold-roll-Value Ty type_step (Value-F.Cell r)
 
 -- the type of an empty array
 type-empty_at : (t : Ty) (k : Ty-F Ty) → out-Ty t ≡ k → type_of (empty_at t k) ≡ ty.Arr t

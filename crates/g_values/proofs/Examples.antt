@@ -11,7 +11,7 @@ use Rattle.g_values.specs.Coerce.{coerced}
 use Rattle.g_values.specs.Proper.{is_buffered, count_after}
 use Rattle.g_values.proofs.Defaults.{default-Num, default-Bool, default-Str, default-Arr, default-Cluster}
 use Rattle.g_values.proofs.CoercedValues.{coerced-Num, coerced-Nums}
-use Rattle.g_values.proofs.Buffered.{buffered-Bool, buffered-Str, buffered-Arr, buffered-QueueRef, buffered-types}
+use Rattle.g_values.proofs.Buffered.{buffered-Bool, buffered-Str, buffered-QueueRef, buffered-types}
 
 defaults_of_a_cluster : default (ty.Cluster (ty.Num U8 ∷ ty.Bool ∷ ty.Str ∷ ty.Arr (ty.Num I16) ∷ [])) ≡ value.Cluster (value.Num (num_of U8 (pos 0)) ∷ value.Bool false ∷ value.Str [] ∷ value.Nums (empty I16) ∷ [])
 defaults_of_a_cluster = simp (default-Cluster, default-Num, default-Bool, default-Str, default-Arr, ty.outs-Num)
