@@ -1,3 +1,6 @@
 pub mod Lines
 pub mod Words
 pub mod Text
+pub mod Operands
+pub mod Ports
+pub mod Leads
