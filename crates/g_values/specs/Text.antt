@@ -1,15 +1,11 @@
 -- The canonical text of a value: numbers in decimal with no needless zero, TRUE or FALSE, texts between quotes, arrays in brackets and
 -- clusters in braces with a comma and a space between items, `null` for the null reference and `ref` for every other one.
-use Rattle.std.specs.Prelude.{ℕ, ℤ, pos, negsuc, ◌≡◌, ◌+◌, ◌/◌, ◌%◌, nat_lt, ◌==◌, Bool, true, false, ◌||◌, ◌&&◌, if◌then◌else◌, List, [], ◌∷◌, ◌++◌, map, Option, Some, None, codes, refl, neg_ℤ, ◌^◌, ◌-◌}
-use Rattle.std.specs.Fmt.{signed_decimal, digits}
+use Rattle.std.specs.Prelude.{ℕ, ◌+◌, ◌/◌, ◌%◌, nat_lt, ◌==◌, Bool, true, false, ◌||◌, ◌&&◌, if◌then◌else◌, List, [], ◌∷◌, ◌++◌, map, Option, Some, None, codes}
+use Rattle.std.specs.Fmt.{signed_decimal}
 use Rattle.g_types.specs.Ty.{joined}
-use Rattle.g_types.specs.declared.rep.Rep.TheVariants.{I8, I64, U64}
-use Rattle.g_types.specs.declared.ty.Ty.TheVariants as ty
 use Rattle.g_values.specs.declared.value.Live.{Live}
 use Rattle.g_values.specs.declared.value.Value.{Value, fold-Value}
-use Rattle.g_values.specs.declared.value.Value.TheVariants as value
 use Rattle.g_values.specs.declared.value.Value.TheOpen.{Value-F}
-use Rattle.g_values.specs.Number.{num_of}
 
 -- a hexadecimal digit, above 9 in upper case
 abbrev pub hex_digit : ℕ → ℕ
