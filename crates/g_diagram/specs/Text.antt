@@ -1,0 +1,241 @@
+-- The canonical text of a hierarchy. Each spelling takes the bytes that follow it, so that nothing is cut or regrouped: tokens with one
+-- space between them, two spaces before a line for each VI or structure around it, numbers without a needless zero, every wire's name or
+-- `_`, both words of the `vi` line.
+use Rattle.std.specs.Prelude.{ℕ, zero, suc, ◌+◌, ◌/◌, ◌%◌, nat_lt, ◌==◌, Bool, true, false, ◌&&◌, ◌||◌, if◌then◌else◌, List, [], ◌∷◌, ◌++◌, map, Option, Some, None, codes}
+use Rattle.std.specs.Fmt.{signed_decimal, decimal}
+use Rattle.g_types.specs.Ty as types
+use Rattle.g_diagram.specs.declared.panel.Lit.{Lit}
+use Rattle.g_diagram.specs.declared.panel.Lit.TheOpen.{Lit-F}
+use Rattle.g_diagram.specs.declared.panel.Lit.TheFolds.{fold-Lit}
+use Rattle.g_diagram.specs.declared.panel.PanelItem.{PanelItem}
+use Rattle.g_diagram.specs.declared.panel.PanelItem.TheVariants.{Control, Indicator}
+use Rattle.g_diagram.specs.declared.node.Selector.{Selector}
+use Rattle.g_diagram.specs.declared.node.Selector.TheVariants as selector
+use Rattle.g_diagram.specs.declared.node.Tunnel.{Tunnel}
+use Rattle.g_diagram.specs.declared.node.Tunnel.TheVariants as line
+use Rattle.g_diagram.specs.declared.node.Node.{Node}
+use Rattle.g_diagram.specs.declared.node.Node.TheOpen.{Node-F, Branch-F, Diagram-F, SequenceFrame-F}
+use Rattle.g_diagram.specs.declared.node.Node.TheFolds.{fold-Node}
+use Rattle.g_diagram.specs.declared.hierarchy.Vi.{Vi}
+use Rattle.g_diagram.specs.declared.hierarchy.Hierarchy.{Hierarchy}
+use Rattle.g_diagram.specs.Words.{primitive_text, shared_text, clones_text, system_text}
+
+abbrev pub Wire : Type 0
+Wire = Option (List ℕ)
+
+-- a spelling: what stands before the bytes that follow
+abbrev pub Spelling : Type 0
+Spelling = List ℕ → List ℕ
+
+-- one spelling after another
+abbrev pub each : List Spelling → Spelling
+each [] rest = rest
+each (s ∷ ss) rest = s (each ss rest)
+
+abbrev pub fixed : List ℕ → Spelling
+fixed text rest = text ++ rest
+
+-- ---- the parts of a line
+
+abbrev pub wire_text : Wire → List ℕ
+wire_text None = codes "_"
+wire_text (Some name) = name
+
+-- a space and a token
+abbrev pub word : List ℕ → Spelling
+word text rest = 32 ∷ (text ++ rest)
+
+abbrev pub wire : Wire → Spelling
+wire w rest = word (wire_text w) rest
+
+abbrev pub wires : List Wire → Spelling
+wires [] rest = rest
+wires (w ∷ ws) rest = wire w (wires ws rest)
+
+-- where there are outputs, an arrow and them
+abbrev pub outputs : List Wire → Spelling
+outputs [] rest = rest
+outputs (w ∷ ws) rest = word (codes "->") (wire w (wires ws rest))
+
+abbrev pub indent : (depth : ℕ) → Spelling
+indent zero rest = rest
+indent (suc depth) rest = 32 ∷ 32 ∷ indent depth rest
+
+-- the first word of a line and what follows it up to the line's end
+abbrev pub line_from : (depth : ℕ) → List ℕ → Spelling → Spelling
+line_from depth head tail rest = indent depth (head ++ tail (10 ∷ rest))
+
+abbrev pub bare_line : (depth : ℕ) → List ℕ → Spelling
+bare_line depth head rest = indent depth (head ++ (10 ∷ rest))
+
+-- ---- texts and literals
+
+abbrev pub hex_digit : ℕ → ℕ
+hex_digit d = if nat_lt d 10 then 48 + d else 55 + d
+
+-- a byte inside a text: `"` and `\` after a `\`, and what isn't printable as `\x` with two digits
+abbrev pub byte_text : ℕ → List ℕ
+byte_text b =
+    if (b == 34) || (b == 92) then 92 ∷ b ∷ []
+    else (if nat_lt 31 b && nat_lt b 127 then b ∷ [] else 92 ∷ 120 ∷ hex_digit (b / 16) ∷ hex_digit (b % 16) ∷ [])
+
+abbrev pub bytes_text : List ℕ → Spelling
+bytes_text [] rest = rest
+bytes_text (b ∷ bs) rest = byte_text b ++ bytes_text bs rest
+
+abbrev pub quoted : List ℕ → Spelling
+quoted text rest = 34 ∷ bytes_text text (34 ∷ rest)
+
+abbrev pub truth_text : Bool → List ℕ
+truth_text true = codes "TRUE"
+truth_text false = codes "FALSE"
+
+abbrev pub after_comma : List Spelling → Spelling
+after_comma [] rest = rest
+after_comma (s ∷ ss) rest = 44 ∷ 32 ∷ s (after_comma ss rest)
+
+abbrev pub listed : List Spelling → Spelling
+listed [] rest = rest
+listed (s ∷ ss) rest = s (after_comma ss rest)
+
+abbrev pub literal_step : Lit-F Spelling → Spelling
+literal_step (Lit-F.Number n) = fixed (signed_decimal n)
+literal_step (Lit-F.Truth b) = fixed (truth_text b)
+literal_step (Lit-F.Text text) = quoted text
+literal_step Lit-F.Null = fixed (codes "null")
+literal_step (Lit-F.Array items) = λ rest. 91 ∷ listed items (93 ∷ rest)
+literal_step (Lit-F.Cluster items) = λ rest. 123 ∷ listed items (125 ∷ rest)
+
+abbrev pub literal : Lit → Spelling
+literal = fold-Lit Spelling literal_step
+
+-- ---- the panel
+
+abbrev pub required_text : Bool → Spelling
+required_text true rest = word (codes "required") rest
+required_text false rest = rest
+
+abbrev pub default_text : Option Lit → Spelling
+default_text None rest = rest
+default_text (Some l) rest = 32 ∷ 61 ∷ 32 ∷ literal l rest
+
+abbrev pub item : PanelItem → Spelling
+item (Control name t required default out) rest =
+    line_from 1 (codes "control") (λ more. word name (word (types.text t) (required_text required (default_text default (word (codes "->") (wire out more)))))) rest
+item (Indicator name t input) rest = line_from 1 (codes "indicator") (λ more. word name (word (types.text t) (word (codes "<-") (wire input more)))) rest
+
+abbrev pub items : List PanelItem → Spelling
+items [] rest = rest
+items (i ∷ is) rest = item i (items is rest)
+
+-- ---- lines at the border of a structure
+
+abbrev pub arrow : Spelling
+arrow rest = word (codes "->") rest
+
+abbrev pub bar : Spelling
+bar rest = word (codes "|") rest
+
+-- in -> out
+abbrev pub across : Wire → Wire → Spelling
+across a b rest = wire a (arrow (wire b rest))
+
+-- | in -> out
+abbrev pub back : Wire → Wire → Spelling
+back a b rest = bar (across a b rest)
+
+abbrev pub default_word : Bool → Spelling
+default_word true rest = word (codes "default") rest
+default_word false rest = rest
+
+abbrev pub border : Tunnel → (depth : ℕ) → Spelling
+border (line.Tunnel a b) depth rest = line_from depth (codes "tunnel") (across a b) rest
+border (line.Register a b next z) depth rest = line_from depth (codes "register") (λ more. across a b (back next z more)) rest
+border (line.Kept t b next z) depth rest = line_from depth (codes "register") (λ more. word (codes "_") (word (types.text t) (arrow (wire b (back next z more))))) rest
+border (line.Last a b) depth rest = line_from depth (codes "last") (across a b) rest
+border (line.Gather a b) depth rest = line_from depth (codes "gather") (across a b) rest
+border (line.Index a b) depth rest = line_from depth (codes "index") (across a b) rest
+border (line.Result out default) depth rest = line_from depth (codes "result") (λ more. wire out (default_word default more)) rest
+border (line.Carry a b) depth rest = line_from depth (codes "carry") (across a b) rest
+border (line.Ref r v next same code) depth rest = line_from depth (codes "ref") (λ more. across r v (back next same (wire code more))) rest
+border (line.Element a i v next z) depth rest = line_from depth (codes "index") (λ more. wire a (across i v (back next z more))) rest
+border (line.Field k c v next z) depth rest = line_from depth (codes "field") (λ more. word (decimal k) (across c v (back next z more))) rest
+
+abbrev pub borders : List Tunnel → (depth : ℕ) → Spelling
+borders [] depth rest = rest
+borders (t ∷ ts) depth rest = border t depth (borders ts depth rest)
+
+abbrev pub selector_text : Selector → Spelling
+selector_text (selector.Number n) rest = signed_decimal n ++ rest
+selector_text (selector.Range low high) rest = signed_decimal low ++ (codes ".." ++ (signed_decimal high ++ rest))
+selector_text (selector.Truth b) rest = truth_text b ++ rest
+selector_text (selector.Text text) rest = quoted text rest
+selector_text selector.Default rest = codes "default" ++ rest
+
+-- `give` stands where there is something to give
+abbrev pub give_text : List Wire → (depth : ℕ) → Spelling
+give_text [] depth rest = rest
+give_text (w ∷ ws) depth rest = line_from depth (codes "give") (wires (w ∷ ws)) rest
+
+-- ---- nodes
+
+-- what stands at a depth
+abbrev pub Block : Type 0
+Block = (depth : ℕ) → Spelling
+
+abbrev pub blocks : List Block → Block
+blocks [] depth rest = rest
+blocks (b ∷ bs) depth rest = b depth (blocks bs depth rest)
+
+-- `do`, `frame`, `when` and `end` stand at their header's depth
+abbrev pub with_body : List Tunnel → Block → Block
+with_body lines body depth rest = borders lines (suc depth) (bare_line depth (codes "do") (body (suc depth) rest))
+
+abbrev pub ended : Block → Block
+ended block depth rest = block depth (bare_line depth (codes "end") rest)
+
+abbrev pub operation : List ℕ → List Wire → List Wire → Block
+operation head ins outs depth rest = line_from depth head (λ more. wires ins (outputs outs more)) rest
+
+abbrev pub node_step : Node-F Block Block Block Block → Block
+node_step (Node-F.Const t l out) = λ depth. line_from depth (codes "const") (λ more. word (types.text t) (32 ∷ literal l (arrow (wire out more))))
+node_step (Node-F.Apply op ins outs) = operation (primitive_text op) ins outs
+node_step (Node-F.Shared op ins outs) = operation (shared_text op) ins outs
+node_step (Node-F.Obtain queue size t out) = λ depth. line_from depth (codes "obtain") (λ more. 32 ∷ quoted queue (word (signed_decimal size) (word (types.text t) (arrow (wire out more)))))
+node_step (Node-F.Read object out) = λ depth. line_from depth (codes "read") (λ more. word object (arrow (wire out more)))
+node_step (Node-F.Write object input) = λ depth. line_from depth (codes "write") (λ more. word object (wire input more))
+node_step (Node-F.Call vi ins outs) = λ depth. line_from depth (codes "call") (λ more. word vi (wires ins (outputs outs more)))
+node_step (Node-F.For count iteration lines body) = ended (λ depth rest. line_from depth (codes "for") (across count iteration) (with_body lines body depth rest))
+node_step (Node-F.While stop iteration lines body) = ended (λ depth rest. line_from depth (codes "while") (across stop iteration) (with_body lines body depth rest))
+node_step (Node-F.Case w lines branches) = ended (λ depth rest. line_from depth (codes "case") (wire w) (borders lines (suc depth) (blocks branches depth rest)))
+node_step (Node-F.Sequence frames) = ended (λ depth rest. bare_line depth (codes "sequence") (blocks frames depth rest))
+node_step (Node-F.InPlace lines body) = ended (λ depth rest. bare_line depth (codes "inplace") (with_body lines body depth rest))
+
+abbrev pub branch_step : Branch-F Block Block Block Block → Block
+branch_step b = λ depth rest. line_from depth (codes "when") (λ more. 32 ∷ listed (map selector_text b.selectors) more) (give_text b.gives (suc depth) (b.body (suc depth) rest))
+
+abbrev pub diagram_step : Diagram-F Block Block Block Block → Block
+diagram_step d = blocks d.nodes
+
+abbrev pub frame_step : SequenceFrame-F Block Block Block Block → Block
+frame_step f = λ depth rest. bare_line depth (codes "frame") (with_body f.lines f.body depth rest)
+
+abbrev pub node : Node → Block
+node = fold-Node Block Block Block Block node_step branch_step diagram_step frame_step
+
+abbrev pub nodes : List Node → (depth : ℕ) → Spelling
+nodes [] depth rest = rest
+nodes (n ∷ ns) depth rest = node n depth (nodes ns depth rest)
+
+-- ---- VIs
+
+abbrev pub vi_text : Vi → Spelling
+vi_text vi rest = line_from 0 (codes "vi") (λ more. word vi.name (word (clones_text vi.clones) (word (system_text vi.system) more))) (items vi.panel (nodes vi.top.nodes 1 (bare_line 0 (codes "end") rest)))
+
+abbrev pub vis_text : List Vi → Spelling
+vis_text [] rest = rest
+vis_text (vi ∷ vis) rest = vi_text vi (vis_text vis rest)
+
+-- the canonical text of a hierarchy
+abbrev pub text_of : Hierarchy → List ℕ
+text_of h = bare_line 0 (codes "glisting 1") (vis_text h.vis [])
