@@ -10,9 +10,10 @@ pub struct Place {
     pub operand: u32,
 }
 
-/// A place at which a rule of the language, 1 to 20, is broken.
-#[derive(Clone, Copy, Debug, PartialEq, Eq)]
+/// A place at which a rule of the language, 1 to 20, is broken. Breaks are ordered by place and then
+/// rule.
+#[derive(Clone, Copy, Debug, PartialEq, Eq, PartialOrd, Ord)]
 pub struct Break {
-    pub rule: u8,
     pub place: Place,
+    pub rule: u8,
 }
