@@ -5,6 +5,7 @@ use Rattle.std.specs.Borrow.{Bor}
 use Rattle.g_grammar.specs.Grammar.{Read}
 use Rattle.g_grammar.specs.Reads.{Stops}
 use Rattle.g_grammar.specs.declared.Stop.{Stop}
+use Rattle.g_grammar.specs.declared.Stop.TheVariants as stop
 use Rattle.g_tokens.specs.declared.token.Token.{Token}
 use Rattle.g_types.specs.declared.rep.Rep.{Rep}
 use Rattle.g_values.specs.declared.num.Num.{Num}
@@ -25,3 +26,9 @@ GivesNext rep (Err e) r = Stops e r
 abbrev pub GivesNumbers : Rep → Result (Numbers × Bor (List Token)) (Stop Token) → Read Token (List ℤ) → Type 0
 GivesNumbers rep (Ok x) r = (x.0.rep ≡ rep) × (r ≡ Ok (x.0.all, x.1.now))
 GivesNumbers rep (Err e) r = Stops e r
+
+-- all of the tokens are this value, or reading was refused at this rest, unless memory ran out
+abbrev pub GivesAll : {A : Type 0} → Result A (Stop Token) → Result A (List Token) → Type 0
+GivesAll (Ok a) r = r ≡ Ok a
+GivesAll (Err (stop.Memory e)) r = Unit {0}
+GivesAll (Err (stop.At bad)) r = r ≡ Err bad.now

@@ -5,10 +5,11 @@ mod numbers;
 mod plain;
 mod print;
 mod read;
-
 mod take;
+mod text;
 
 pub use print::print_value;
+pub use text::{ValueRefused, read_value};
 
 #[cfg(test)]
 mod tests;

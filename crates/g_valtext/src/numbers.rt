@@ -48,10 +48,7 @@ fn numbers<'a>(
 }
 
 /// A comma and one more number, or the bracket.
-fn next_number(
-    rep: Rep,
-    tokens: &[Token],
-) -> Result<(Option<Num>, &[Token]), Stop<'_, Token>>
+fn next_number(rep: Rep, tokens: &[Token]) -> Result<(Option<Num>, &[Token]), Stop<'_, Token>>
     ensures { GivesNext rep result (read (turn (spec.number rep)) tokens.now) }
 {
     let (again, rest) = comma_or_bracket(tokens)?;

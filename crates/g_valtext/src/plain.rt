@@ -16,10 +16,7 @@ use std::alloc::Global;
 
 /// A number of the representation.
 #[tactic(auto, using(crate::proofs::Steps::by_forms))]
-pub(crate) fn number_value(
-    rep: Rep,
-    tokens: &[Token],
-) -> Result<(Value, &[Token]), Stop<'_, Token>>
+pub(crate) fn number_value(rep: Rep, tokens: &[Token]) -> Result<(Value, &[Token]), Stop<'_, Token>>
     ensures { Gives result (read (of_form (Number rep)) tokens.now) }
 {
     let (number, rest) = number(rep, tokens)?;

@@ -23,8 +23,8 @@ loop-preserved c =
     record {
       rep = ap (λ (xs : Numbers). xs.rep) pushed ∙ c.loop.invariant.rep;
       read =
-        ap (λ (l : List _). with_front l (read (further (number c.args.rep) (most_further - (c.loop.counter + 1))) c.in-Ok.found.1.now)) all
-        ∙ further_more (number c.args.rep) c.loop.all.all most_further c.loop.counter c.loop.rest.now _ c.in-Ok.found.1.now c.in-Some.number.n c.loop-test.true e c.loop.invariant.read;
+          ap (λ (l : List _). with_front l (read (further (number c.args.rep) (most_further - (c.loop.counter + 1))) c.in-Ok.found.1.now)) all
+          ∙ further_more (number c.args.rep) c.loop.all.all most_further c.loop.counter c.loop.rest.now _ c.in-Ok.found.1.now c.in-Some.number.n c.loop-test.true e c.loop.invariant.read;
     }
 
 pub returns-in-Ok-close_bracket : goal.returns-in-Ok-close_bracket

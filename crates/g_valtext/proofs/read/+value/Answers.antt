@@ -68,7 +68,7 @@ items-returns t c =
     let mid = c.in-Ok.found.1.now in
     let pushed = c.in_ok-push.ensures ∙ ap (λ (l : List Value). l ++ item ∷ []) c.new-items.ensures in
     let e = ap (λ (l : List Value). with_front l (read (further (values c.args.elem.now) most_further) mid)) pushed
-        ∙ sym (array_begins (first_of f) (rest_of f) c.args.tokens.now mid item c.in_default.ensures c.in-Ok.ensures) in
+    ∙ sym (array_begins (first_of f) (rest_of f) c.args.tokens.now mid item c.in_default.ensures c.in-Ok.ensures) in
     subst (λ r. Gives c.further_items.result r) e c.further_items.ensures
 
 pub further_items-returns-in-Err : goal.further_items-returns-in-Err
