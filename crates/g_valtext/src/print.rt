@@ -11,6 +11,9 @@ use g_values::{NumArr, RefValue, Value};
 use itoa::Buffer;
 use std::alloc::{AllocError, Global};
 
+/// What stands between the items of an array or a cluster.
+const BETWEEN: &[u8] = b", ";
+
 /// The canonical text of a value.
 pub fn print_value(alloc: Global, value: &Value) -> Result<Bytes, AllocError>
     ensures { IfOk result (λ text. text ≡ spec.text value.now) }
@@ -109,7 +112,7 @@ fn push_words(out: &mut Vec<u8>, rep: Rep, words: &[u64]) -> Result<(), AllocErr
     }
     push_word(out, rep, words[0])?;
     for i in 1..words.len() {
-        out.extend_from_slice(b", ")?;
+        out.extend_from_slice(BETWEEN)?;
         push_word(out, rep, words[i])?;
     }
     Ok(())
@@ -145,7 +148,7 @@ fn push_values(out: &mut Vec<u8>, items: &[Value]) -> Result<(), AllocError>
     }
     push_value(out, &items[0])?;
     for i in 1..items.len() {
-        out.extend_from_slice(b", ")?;
+        out.extend_from_slice(BETWEEN)?;
         push_value(out, &items[i])?;
     }
     Ok(())

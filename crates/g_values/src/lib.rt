@@ -2,6 +2,7 @@
 #![tactic(auto)]
 
 mod coercion;
+mod elements;
 mod num;
 mod nums;
 mod primitive;
