@@ -7,12 +7,13 @@ use Rattle.g_diagram.specs.declared.node.Tunnel.TheVariants as tunnel
 use Rattle.g_tokens.specs.declared.token.Token.{Token}
 use Rattle.g_tokens.specs.declared.token.Token.TheVariants as token
 use Rattle.g_tokens.specs.declared.token.Mark.TheVariants as mark
+use Rattle.g_syntax.specs.declared.Border.{Border}
 use Rattle.g_syntax.specs.declared.LineWord.{LineWord}
 use Rattle.g_syntax.specs.declared.LineWord.TheVariants as line
-use Rattle.g_syntax.specs.Words.{word_in, name, wire, eol, arrow, bar, arrow_or_eol, default_or_eol, field_number}
+use Rattle.g_syntax.specs.Words.{word, word_in, name, wire, eol, arrow, bar, arrow_or_eol, default_or_eol, field_number}
 use Rattle.g_syntax.specs.Types.{types}
 use Rattle.g_syntax.specs.Literals.{literals}
-use Rattle.g_syntax.specs.Borders.{Wire, item_or_end, wires_to, outputs, operands, last_wire, to_wire, across, turned, through, register_rest, result_end, line_rest, line_or_end, lines_to}
+use Rattle.g_syntax.specs.Borders.{Wire, item_or_end, wires_to, outputs, operands, last_wire, to_wire, across, turned, through, register_rest, result_end, line_rest, line_or_end, lines_of, lines_to}
 use Rattle.g_syntax.proofs.LiveTypes.{live_types}
 use Rattle.g_syntax.proofs.LiveLiterals.{live_literals}
 
@@ -103,5 +104,5 @@ live_line_or_end : {D : Type 0} (c : LineWord ⊎ D) → Live (line_or_end c)
 live_line_or_end (inl w) = live_bind (live_line w) λ l. live_give (inl l)
 live_line_or_end (inr d) = live_give (inr d)
 
-pub live_lines : {D : Type 0} (rows : List (List ℕ × LineWord)) (q : Token → Option D) (u : Token) (d : D) → or_else (word_in rows) q u ≡ Some (inr d) → Live (lines_to rows q)
-live_lines rows q u d h = live_loop (or_else (word_in rows) q) line_or_end (λ t c e. live_line_or_end c) u (inr d) [] d h (refl, refl)
+pub live_lines : (b : Border) (stop : List ℕ) → or_else (word_in (lines_of b)) (word stop) (token.Word stop) ≡ Some (inr tt) → Live (lines_to b stop)
+live_lines b stop h = live_loop (or_else (word_in (lines_of b)) (word stop)) line_or_end (λ t c e. live_line_or_end c) (token.Word stop) (inr tt) [] tt h (refl, refl)

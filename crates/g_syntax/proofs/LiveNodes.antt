@@ -18,13 +18,19 @@ use Rattle.g_words.specs.declared.Operation.{Operation}
 use Rattle.g_words.specs.declared.Operation.TheVariants as operation
 use Rattle.g_syntax.specs.declared.NodeWord.{NodeWord}
 use Rattle.g_syntax.specs.declared.NodeWord.TheVariants as word_of
-use Rattle.g_syntax.specs.declared.LineWord.{LineWord}
+use Rattle.g_syntax.specs.declared.PlainWord.{PlainWord}
+use Rattle.g_syntax.specs.declared.PlainWord.TheVariants as plain
+use Rattle.g_syntax.specs.declared.StructureWord.{StructureWord}
+use Rattle.g_syntax.specs.declared.StructureWord.TheVariants as structure
+use Rattle.g_syntax.specs.declared.Until.{Until}
+use Rattle.g_syntax.specs.declared.Until.TheVariants as until
+use Rattle.g_syntax.specs.declared.Border.{Border}
+use Rattle.g_syntax.specs.declared.Border.TheVariants as border
 use Rattle.g_syntax.specs.declared.SelectorFirst.{SelectorFirst}
 use Rattle.g_syntax.specs.declared.SelectorFirst.TheVariants as first
-use Rattle.g_syntax.specs.Words.{node_word, node_words, word, word_in, either_word, name, wire, eol, comma_or_eol}
-use Rattle.g_syntax.specs.Types.{is_above}
-use Rattle.g_syntax.specs.Borders.{Wire, lines_to, for_lines, while_lines, case_lines, first_frame_lines, frame_lines, place_lines}
-use Rattle.g_syntax.specs.Nodes.{selector_first, range_rest, selector_rest, more_or_last, selector_item, and_last, further_selectors, selectors, results, gives, Inside, more_or_end, branch_rest, frame_rest, further_frames, is_structure, fitting_node, node_first, node_or_end, body_to_end, lines_and_body, operation_rest, node_rest_of, none_inside, node_rest, nodes}
+use Rattle.g_syntax.specs.Words.{node_word, word, word_in, wire, eol, comma_or_eol}
+use Rattle.g_syntax.specs.Borders.{lines_of}
+use Rattle.g_syntax.specs.Nodes.{selector_first, range_rest, selector_rest, more_or_last, selector_item, and_last, further_selectors, selectors, results, gives, ends_of, Inside, more_or_end, branch_rest, frame_rest, further_frames, fitting_node, node_first, node_or_end, lines_and_body, operation_rest, plain_rest, structure_rest, node_rest, nodes}
 use Rattle.g_syntax.proofs.LiveBorders.{live_name, live_wire, live_eol, live_field, live_type, live_literal, live_operands, live_last_wire, live_to_wire, live_lines}
 
 -- ---- selectors
@@ -76,35 +82,27 @@ live_more_or_end : {A : Type 0} (a : A) (more : Bool) → Live (more_or_end a mo
 live_more_or_end a true = live_give (inl a)
 live_more_or_end a false = live_bind live_eol λ e. live_give (inr a)
 
--- no node begins so, in any version
-abbrev pub IsOther : ℕ → Token → Type 0
-IsOther v u = node_word v u ≡ None
-
--- diagrams that can be completed, and may be empty, up to any token with which no node begins
-pub record Ready (v : ℕ) (inside : Inside) : Type 1 where
-  pub live : (D : Type 0) (q : Token → Option D) (u : Token) (d : D) → IsOther v u → q u ≡ Some d → Live (inside D q)
-  pub empty : (D : Type 0) (q : Token → Option D) (u : Token) (d : D) → IsOther v u → q u ≡ Some d → Has (inside D q) (u ∷ []) ([], d) []
-
 abbrev an_end : Token
 an_end = token.Word (codes "end")
 
-end_is_other : (v : ℕ) → IsOther v an_end
-unfolding row_named
-end_is_other v = refl
+-- diagrams that can be completed, and may be empty
+pub record Ready (inside : Inside) : Type 0 where
+  pub live : (u : Until) → Live (inside u)
+  pub empty : (u : Until) → Has (inside u) (an_end ∷ []) ([], false) []
 
-live_branch : (v : ℕ) (inside : Inside) → Ready v inside → (n : ℕ) (c : SelectorFirst) → Live (branch_rest inside n c)
-live_branch v inside ready n c =
+live_branch : (inside : Inside) → Ready inside → (n : ℕ) (c : SelectorFirst) → Live (branch_rest inside n c)
+live_branch inside ready n c =
     live_bind (live_selectors c) λ ss.
     live_bind (live_gives n) λ ws.
-    live_bind (ready.live Bool (either_word (codes "when") (codes "end")) an_end false (end_is_other v) refl) λ nodes.
+    live_bind (ready.live until.WhenOrEnd) λ nodes.
     live_more_or_end (record { selectors = ss; gives = ws; body = record { nodes = nodes.0 } }) nodes.1
 
 -- what ends the last diagram
 abbrev finish : List Token
 finish = an_end ∷ token.Eol ∷ []
 
-ends_here : {D : Type 0} (v : ℕ) (inside : Inside) → Ready v inside → (q : Token → Option D) (d : D) → q an_end ≡ Some d → Has (inside D q) finish ([], d) (token.Eol ∷ [])
-ends_here {D} v inside ready q d e = extends (inside D q) (an_end ∷ []) ([], d) (ready.empty D q an_end d (end_is_other v) e) (token.Eol ∷ [])
+ends_here : (inside : Inside) → Ready inside → (u : Until) → Has (inside u) finish ([], false) (token.Eol ∷ [])
+ends_here inside ready u = extends (inside u) (an_end ∷ []) ([], false) (ready.empty u) (token.Eol ∷ [])
 
 -- the last branch of a case
 abbrev last_tokens : ℕ → List Token
@@ -113,8 +111,8 @@ last_tokens n = token.Eol ∷ ((live_gives n).phrase ++ finish)
 abbrev last_value : ℕ → Branch
 last_value n = record { selectors = selector.Default ∷ []; gives = (live_gives n).value; body = record { nodes = [] } }
 
-last_branch : (v : ℕ) (inside : Inside) → Ready v inside → (n : ℕ) → Has (branch_rest inside n by_default) (last_tokens n) (inr (last_value n)) []
-last_branch v inside ready n =
+last_branch : (inside : Inside) → Ready inside → (n : ℕ) → Has (branch_rest inside n by_default) (last_tokens n) (inr (last_value n)) []
+last_branch inside ready n =
     let mid : List Token = (live_gives n).phrase ++ finish in (
       selector.Default ∷ [],
       mid,
@@ -123,15 +121,15 @@ last_branch v inside ready n =
         (live_gives n).value,
         finish,
         extends (gives n) (live_gives n).phrase (live_gives n).value (live_gives n).sample finish,
-        (([], false), token.Eol ∷ [], ends_here v inside ready (either_word (codes "when") (codes "end")) false refl, (tt, [], (refl, refl), (refl, refl))),
+        (([], false), token.Eol ∷ [], ends_here inside ready until.WhenOrEnd, (tt, [], (refl, refl), (refl, refl))),
       ),
     )
 
-live_frame : (v : ℕ) (inside : Inside) → Ready v inside → (rows : List (List ℕ × LineWord)) → or_else (word_in rows) (word (codes "do")) (token.Word (codes "do")) ≡ Some (inr tt) → Live (frame_rest inside rows)
-live_frame v inside ready rows e =
-    live_bind (live_lines rows (word (codes "do")) (token.Word (codes "do")) tt e) λ lines.
+live_frame : (inside : Inside) → Ready inside → (b : Border) → or_else (word_in (lines_of b)) (word (codes "do")) (token.Word (codes "do")) ≡ Some (inr tt) → Live (frame_rest inside b)
+live_frame inside ready b e =
+    live_bind (live_lines b (codes "do") e) λ lines.
     live_bind live_eol λ e.
-    live_bind (ready.live Bool (either_word (codes "frame") (codes "end")) an_end false (end_is_other v) refl) λ nodes.
+    live_bind (ready.live until.FrameOrEnd) λ nodes.
     live_more_or_end (record { lines = lines.0; body = record { nodes = nodes.0 } }) nodes.1
 
 -- the last frame of a sequence, after its first line
@@ -141,34 +139,21 @@ frame_tokens = token.Word (codes "do") ∷ token.Eol ∷ finish
 abbrev empty_frame : SequenceFrame
 empty_frame = record { lines = []; body = record { nodes = [] } }
 
-last_frame : (v : ℕ) (inside : Inside) → Ready v inside → Has (frame_rest inside frame_lines) frame_tokens (inr empty_frame) []
-last_frame v inside ready = (
+last_frame : (inside : Inside) → Ready inside → Has (frame_rest inside border.Frame) frame_tokens (inr empty_frame) []
+last_frame inside ready = (
   ([], tt),
   token.Eol ∷ finish,
   (inr tt, refl, (refl, refl)),
-  (tt, finish, (refl, refl), (([], false), token.Eol ∷ [], ends_here v inside ready (either_word (codes "frame") (codes "end")) false refl, (tt, [], (refl, refl), (refl, refl)))),
+  (tt, finish, (refl, refl), (([], false), token.Eol ∷ [], ends_here inside ready until.FrameOrEnd, (tt, [], (refl, refl), (refl, refl)))),
 )
 
-live_frames : (v : ℕ) (inside : Inside) → Ready v inside → (f : SequenceFrame ⊎ SequenceFrame) → Live (further_frames inside f)
-live_frames v inside ready (inl f) =
-    live_bind (live_loop eol (λ e. frame_rest inside frame_lines) (λ t c e. live_frame v inside ready frame_lines refl) token.Eol tt frame_tokens empty_frame refl (last_frame v inside ready))
+live_frames : (inside : Inside) → Ready inside → (f : SequenceFrame ⊎ SequenceFrame) → Live (further_frames inside f)
+live_frames inside ready (inl f) =
+    live_bind (live_loop eol (λ e. frame_rest inside border.Frame) (λ t c e. live_frame inside ready border.Frame refl) token.Eol tt frame_tokens empty_frame refl (last_frame inside ready))
     λ fs. live_give (f ∷ and_last fs)
-live_frames v inside ready (inr f) = live_give (f ∷ [])
+live_frames inside ready (inr f) = live_give (f ∷ [])
 
--- ---- nodes
-
-live_body : (v : ℕ) (inside : Inside) → Ready v inside → Live (body_to_end inside)
-live_body v inside ready =
-    live_bind live_eol λ d.
-    live_bind (ready.live (Unit {0}) (word (codes "end")) an_end tt (end_is_other v) refl) λ nodes.
-    live_bind live_eol λ e.
-    live_give nodes.0
-
-live_lines_and_body : (v : ℕ) (inside : Inside) → Ready v inside → (rows : List (List ℕ × LineWord)) → or_else (word_in rows) (word (codes "do")) (token.Word (codes "do")) ≡ Some (inr tt) → Live (lines_and_body inside rows)
-live_lines_and_body v inside ready rows e =
-    live_bind (live_lines rows (word (codes "do")) (token.Word (codes "do")) tt e) λ lines.
-    live_bind (live_body v inside ready) λ nodes.
-    live_give (lines.0, nodes)
+-- ---- nodes without diagrams
 
 live_operation : (o : Operation) → Live (operation_rest o)
 live_operation (operation.Apply p) = live_bind live_operands λ w. live_give (node.Apply p w.0 w.1)
@@ -176,85 +161,91 @@ live_operation operation.Get = live_bind live_field λ k. live_bind live_operand
 live_operation operation.Set = live_bind live_field λ k. live_bind live_operands λ w. live_give (node.Apply (primitive.Set k) w.0 w.1)
 live_operation (operation.Shared s) = live_bind live_operands λ w. live_give (node.Shared s w.0 w.1)
 
--- a node that is no structure, whatever could stand inside
-live_plain : (v : ℕ) (inside : Inside) (w : NodeWord) → is_structure w ≡ false → Live (node_rest_of v inside w)
-live_plain v inside word_of.Const e = live_bind live_type λ t. live_bind live_literal λ l. live_bind live_to_wire λ o. live_give (node.Const t l o)
-live_plain v inside (word_of.Operation o) e = live_operation o
-live_plain v inside word_of.Obtain e =
+live_plain : (w : PlainWord) → Live (plain_rest w)
+live_plain plain.Const = live_bind live_type λ t. live_bind live_literal λ l. live_bind live_to_wire λ o. live_give (node.Const t l o)
+live_plain (plain.Operation o) = live_operation o
+live_plain plain.Obtain =
     live_bind (live_take (token.Text []) [] refl) λ q.
     live_bind (live_take (token.Number (pos 1)) (pos 1) refl) λ n.
     live_bind live_type λ t.
     live_bind live_to_wire λ o.
     live_give (node.Obtain q n t o)
-live_plain v inside word_of.Read e = live_bind live_name λ n. live_bind live_to_wire λ o. live_give (node.Read n o)
-live_plain v inside word_of.Write e = live_bind live_name λ n. live_bind live_last_wire λ i. live_give (node.Write n i)
-live_plain v inside word_of.Call e = live_bind live_name λ n. live_bind live_operands λ w. live_give (node.Call n w.0 w.1)
-live_plain v inside word_of.For e = absurd cc
-live_plain v inside word_of.While e = absurd cc
-live_plain v inside word_of.Case e = absurd cc
-live_plain v inside word_of.Sequence e = absurd cc
-live_plain v inside word_of.InPlace e = absurd cc
+live_plain plain.Read = live_bind live_name λ n. live_bind live_to_wire λ o. live_give (node.Read n o)
+live_plain plain.Write = live_bind live_name λ n. live_bind live_last_wire λ i. live_give (node.Write n i)
+live_plain plain.Call = live_bind live_name λ n. live_bind live_operands λ w. live_give (node.Call n w.0 w.1)
 
-live_node : (v : ℕ) (inside : Inside) → Ready v inside → (w : NodeWord) → Live (node_rest_of v inside w)
-live_node v inside ready word_of.Const = live_plain v inside word_of.Const refl
-live_node v inside ready (word_of.Operation o) = live_operation o
-live_node v inside ready word_of.Obtain = live_plain v inside word_of.Obtain refl
-live_node v inside ready word_of.Read = live_plain v inside word_of.Read refl
-live_node v inside ready word_of.Write = live_plain v inside word_of.Write refl
-live_node v inside ready word_of.Call = live_plain v inside word_of.Call refl
-live_node v inside ready word_of.For =
-    live_bind live_wire λ n. live_bind live_to_wire λ i. live_bind (live_lines_and_body v inside ready for_lines refl) λ b. live_give (node.For n i b.0 (record { nodes = b.1 }))
-live_node v inside ready word_of.While =
-    live_bind live_wire λ s. live_bind live_to_wire λ i. live_bind (live_lines_and_body v inside ready while_lines refl) λ b. live_give (node.While s i b.0 (record { nodes = b.1 }))
-live_node v inside ready word_of.Case =
+-- ---- structures
+
+live_lines_and_body : (inside : Inside) → Ready inside → (b : Border) → or_else (word_in (lines_of b)) (word (codes "do")) (token.Word (codes "do")) ≡ Some (inr tt) → Live (lines_and_body inside b)
+live_lines_and_body inside ready b e =
+    live_bind (live_lines b (codes "do") e) λ lines.
+    live_bind live_eol λ d.
+    live_bind (ready.live until.End) λ nodes.
+    live_bind live_eol λ e.
+    live_give (lines.0, nodes.0)
+
+live_structure : (v : ℕ) (inside : Inside) → Ready inside → (w : StructureWord) → Live (structure_rest v inside w)
+live_structure v inside ready structure.For =
+    live_bind live_wire λ n. live_bind live_to_wire λ i. live_bind (live_lines_and_body inside ready border.For refl) λ b. live_give (node.For n i b.0 (record { nodes = b.1 }))
+live_structure v inside ready structure.While =
+    live_bind live_wire λ s. live_bind live_to_wire λ i. live_bind (live_lines_and_body inside ready border.While refl) λ b. live_give (node.While s i b.0 (record { nodes = b.1 }))
+live_structure v inside ready structure.Case =
     live_bind live_last_wire λ w.
-    live_bind (live_lines case_lines (word (codes "when")) (token.Word (codes "when")) tt refl) λ lines.
-    live_bind (live_loop selector_first (branch_rest inside (results lines.0)) (λ t c e. live_branch v inside ready (results lines.0) c)
-    (token.Word (codes "default")) by_default (last_tokens (results lines.0)) (last_value (results lines.0)) refl (last_branch v inside ready (results lines.0)))
+    live_bind (live_lines border.Case (codes "when") refl) λ lines.
+    live_bind (live_loop selector_first (branch_rest inside (results lines.0)) (λ t c e. live_branch inside ready (results lines.0) c)
+    (token.Word (codes "default")) by_default (last_tokens (results lines.0)) (last_value (results lines.0)) refl (last_branch inside ready (results lines.0)))
     λ branches. live_give (node.Case w lines.0 (and_last branches))
-live_node v inside ready word_of.Sequence =
+live_structure v inside ready structure.Sequence =
     live_bind live_eol λ e.
     live_bind (live_take (token.Word (codes "frame")) tt refl) λ x.
     live_bind live_eol λ f.
-    live_bind (live_frame v inside ready first_frame_lines refl) λ first.
-    live_bind (live_frames v inside ready first) λ frames.
+    live_bind (live_frame inside ready border.FirstFrame refl) λ first.
+    live_bind (live_frames inside ready first) λ frames.
     live_give (node.Sequence frames)
-live_node v inside ready word_of.InPlace =
-    live_bind live_eol λ e. live_bind (live_lines_and_body v inside ready place_lines refl) λ b. live_give (node.InPlace b.0 (record { nodes = b.1 }))
+live_structure v inside ready structure.InPlace =
+    live_bind live_eol λ e. live_bind (live_lines_and_body inside ready border.InPlace refl) λ b. live_give (node.InPlace b.0 (record { nodes = b.1 }))
 
-leaf_of : (b : Bool) (w v : NodeWord) → is_structure w ≡ b → cond b (cond (is_above 0) (Some w) None) (Some w) ≡ Some v → is_structure v ≡ false
-leaf_of true w v is e = absurd cc
-leaf_of false w v is e = let f : w ≡ v = cc in ap is_structure (sym f) ∙ is
+-- ---- levels
 
-leaf : (o : Option NodeWord) (v : NodeWord) → fitting_node 0 o ≡ Some v → is_structure v ≡ false
-leaf None v e = absurd cc
-leaf (Some w) v e = leaf_of (is_structure w) w v refl e
+no_structure : (o : Option NodeWord) (w : StructureWord) → fitting_node 0 o ≡ Some (word_of.Structure w) → ⊥
+no_structure None w e = cc
+no_structure (Some (word_of.Plain p)) w e = let f : word_of.Plain p ≡ word_of.Structure w = cc in cc
+no_structure (Some (word_of.Structure s)) w e = cc
 
 live_item : {D : Type 0} (begin : Token → Option NodeWord) (rest : NodeWord → Grammar Token Node) (q : Token → Option D) → ((t : Token) (w : NodeWord) → begin t ≡ Some w → Live (rest w))
     → (t : Token) (c : NodeWord ⊎ D) → or_else begin q t ≡ Some c → Live (node_or_end rest c)
 live_item begin rest q live t (inl w) e = live_bind (live t w (either_left (begin t) (q t) w e)) λ n. live_give (inl n)
 live_item begin rest q live t (inr d) e = live_give (inr d)
 
-ends_at : {D : Type 0} (n : ℕ) (o : Option NodeWord) (q : Option D) (d : D) → o ≡ None → q ≡ Some d → either (fitting_node n o) q ≡ Some (inr d)
-ends_at n o q d is end = rw (is, end) refl
+-- no node begins with `end`, in any version
+end_is_other : (v : ℕ) → node_word v an_end ≡ None
+unfolding row_named
+end_is_other v = refl
 
-ready_with : (v n : ℕ) → ((t : Token) (w : NodeWord) → node_first v n t ≡ Some w → Live (node_rest v n w)) → Ready v (nodes v n)
+ends_at : {D : Type 0} (v n : ℕ) (q : Option D) (d : D) → q ≡ Some d → either (node_first v n an_end) q ≡ Some (inr d)
+ends_at v n q d end = rw (end_is_other v, end) refl
+
+pub end_after : (v n : ℕ) → either (node_first v n an_end) (word (codes "end") an_end) ≡ Some (inr tt)
+end_after v n = ends_at v n (word (codes "end") an_end) tt refl
+
+ends_until : (u : Until) → word_in (ends_of u) an_end ≡ Some false
+ends_until until.End = refl
+ends_until until.WhenOrEnd = refl
+ends_until until.FrameOrEnd = refl
+
+ready_with : (v n : ℕ) → ((t : Token) (w : NodeWord) → node_first v n t ≡ Some w → Live (node_rest v n w)) → Ready (nodes v n)
 ready_with v n live = record {
-  live = λ D q u d none end. live_loop (or_else (node_first v n) q) (node_or_end (node_rest v n)) (live_item (node_first v n) (node_rest v n) q live) u (inr d) [] d
-      (ends_at n (node_word v u) (q u) d none end) (refl, refl);
-  empty = λ D q u d none end. (inr d, ends_at n (node_word v u) (q u) d none end, (refl, refl));
+  live = λ u. live_loop (or_else (node_first v n) (word_in (ends_of u))) (node_or_end (node_rest v n)) (live_item (node_first v n) (node_rest v n) (word_in (ends_of u)) live) an_end (inr false) [] false
+      (ends_at v n (word_in (ends_of u) an_end) false (ends_until u)) (refl, refl);
+  empty = λ u. (inr false, ends_at v n (word_in (ends_of u) an_end) false (ends_until u), (refl, refl));
 }
 
 pub live_node_rest : (v n : ℕ) (t : Token) (w : NodeWord) → node_first v n t ≡ Some w → Live (node_rest v n w)
 unfolding node_rest
-live_node_rest v zero t w e = live_plain v none_inside w (leaf (node_word v t) w e)
-live_node_rest v (suc n) t w e = live_node v (nodes v n) (ready_with v n (live_node_rest v n)) w
+live_node_rest v zero t (word_of.Plain w) e = live_plain w
+live_node_rest v zero t (word_of.Structure w) e = absurd (no_structure (node_word v t) w e)
+live_node_rest v (suc n) t (word_of.Plain w) e = live_plain w
+live_node_rest v (suc n) t (word_of.Structure w) e = live_structure v (nodes v n) (ready_with v n (live_node_rest v n)) w
 
-pub ready : (v n : ℕ) → Ready v (nodes v n)
-ready v n = ready_with v n (live_node_rest v n)
-
-pub live_nodes : (v n : ℕ) → Live (nodes v n (Unit {0}) (word (codes "end")))
-live_nodes v n = (ready v n).live (Unit {0}) (word (codes "end")) an_end tt (end_is_other v) refl
-
-pub end_after : (v n : ℕ) → either (node_first v n an_end) (word (codes "end") an_end) ≡ Some (inr tt)
-end_after v n = ends_at n (node_word v an_end) (word (codes "end") an_end) tt (end_is_other v) refl
+pub live_nodes : (v n : ℕ) → Live (nodes v n until.End)
+live_nodes v n = (ready_with v n (live_node_rest v n)).live until.End

@@ -6,9 +6,11 @@ use Rattle.g_types.specs.declared.ty.Ty.{Ty}
 use Rattle.g_diagram.specs.declared.node.Tunnel.{Tunnel}
 use Rattle.g_diagram.specs.declared.node.Tunnel.TheVariants as tunnel
 use Rattle.g_tokens.specs.declared.token.Token.{Token}
+use Rattle.g_syntax.specs.declared.Border.{Border}
+use Rattle.g_syntax.specs.declared.Border.TheVariants as border
 use Rattle.g_syntax.specs.declared.LineWord.{LineWord}
 use Rattle.g_syntax.specs.declared.LineWord.TheVariants as line
-use Rattle.g_syntax.specs.Words.{word_in, wire, eol, arrow, bar, arrow_or_eol, default_or_eol, field_number}
+use Rattle.g_syntax.specs.Words.{word, word_in, wire, eol, arrow, bar, arrow_or_eol, default_or_eol, field_number}
 use Rattle.g_syntax.specs.Types.{types}
 
 abbrev pub Wire : Type 0
@@ -140,10 +142,6 @@ line_or_end (inl w) = do
   give (inl l)
 line_or_end (inr d) = give (inr d)
 
--- such lines up to another token
-abbrev pub lines_to : {D : Type 0} → List (List ℕ × LineWord) → (Token → Option D) → Grammar Token (List Tunnel × D)
-lines_to rows q = loop (or_else (word_in rows) q) line_or_end
-
 -- ---- the lines that each structure has
 
 abbrev pub while_lines : List (List ℕ × LineWord)
@@ -164,3 +162,15 @@ frame_lines = (codes "carry", line.Carry) ∷ first_frame_lines
 abbrev pub place_lines : List (List ℕ × LineWord)
 place_lines =
     (codes "tunnel", line.Tunnel) ∷ (codes "last", line.Last) ∷ (codes "ref", line.Ref) ∷ (codes "index", line.Element) ∷ (codes "field", line.Field) ∷ []
+
+abbrev pub lines_of : Border → List (List ℕ × LineWord)
+lines_of border.For = for_lines
+lines_of border.While = while_lines
+lines_of border.Case = case_lines
+lines_of border.FirstFrame = first_frame_lines
+lines_of border.Frame = frame_lines
+lines_of border.InPlace = place_lines
+
+-- lines of a border up to a word
+abbrev pub lines_to : Border → List ℕ → Grammar Token (List Tunnel × Unit {0})
+lines_to b stop = loop (or_else (word_in (lines_of b)) (word stop)) line_or_end

@@ -17,6 +17,7 @@ use Rattle.g_tokens.specs.declared.token.Token.TheVariants as token
 use Rattle.g_tokens.specs.declared.token.Mark.TheVariants as mark
 use Rattle.g_words.specs.Operations.{lookup}
 use Rattle.g_syntax.specs.declared.NodeWord.{NodeWord}
+use Rattle.g_syntax.specs.declared.Until.TheVariants as until
 use Rattle.g_syntax.specs.declared.PanelWord.{PanelWord}
 use Rattle.g_syntax.specs.declared.PanelWord.TheVariants as panel_word
 use Rattle.g_syntax.specs.declared.ControlMark.{ControlMark}
@@ -140,7 +141,7 @@ body_item v (inr (inr x)) = give (inr None)
 abbrev pub nodes_after : ℕ → Option Node → Grammar Token (List Node)
 nodes_after v None = give []
 nodes_after v (Some n) = do
-  ns ← nodes v 32 (Unit {0}) end
+  ns ← nodes v 32 until.End
   give (n ∷ ns.0)
 
 abbrev pub vi_rest : ℕ → Grammar Token Vi

@@ -19,13 +19,20 @@ use Rattle.g_words.specs.declared.Operation.{Operation}
 use Rattle.g_words.specs.declared.Operation.TheVariants as operation
 use Rattle.g_syntax.specs.declared.NodeWord.{NodeWord}
 use Rattle.g_syntax.specs.declared.NodeWord.TheVariants as word_of
-use Rattle.g_syntax.specs.declared.LineWord.{LineWord}
+use Rattle.g_syntax.specs.declared.PlainWord.{PlainWord}
+use Rattle.g_syntax.specs.declared.PlainWord.TheVariants as plain
+use Rattle.g_syntax.specs.declared.StructureWord.{StructureWord}
+use Rattle.g_syntax.specs.declared.StructureWord.TheVariants as structure
+use Rattle.g_syntax.specs.declared.Until.{Until}
+use Rattle.g_syntax.specs.declared.Until.TheVariants as until
+use Rattle.g_syntax.specs.declared.Border.{Border}
+use Rattle.g_syntax.specs.declared.Border.TheVariants as border
 use Rattle.g_syntax.specs.declared.SelectorFirst.{SelectorFirst}
 use Rattle.g_syntax.specs.declared.SelectorFirst.TheVariants as first
-use Rattle.g_syntax.specs.Words.{node_word, word, either_word, name, text, wire, eol, arrow, comma_or_eol, number, field_number, queue_size}
+use Rattle.g_syntax.specs.Words.{node_word, word, word_in, name, text, wire, eol, comma_or_eol, number, field_number, queue_size}
 use Rattle.g_syntax.specs.Types.{types, is_above}
 use Rattle.g_syntax.specs.Literals.{literals}
-use Rattle.g_syntax.specs.Borders.{Wire, operands, last_wire, to_wire, lines_to, for_lines, while_lines, case_lines, first_frame_lines, frame_lines, place_lines}
+use Rattle.g_syntax.specs.Borders.{Wire, operands, last_wire, to_wire, lines_to}
 
 -- ---- selectors
 
@@ -100,9 +107,15 @@ gives (suc n) = do
   e ← take eol
   give ws
 
--- nodes up to another token
+-- the words that end a diagram: FALSE for `end`
+abbrev pub ends_of : Until → List (List ℕ × Bool)
+ends_of until.End = (codes "end", false) ∷ []
+ends_of until.WhenOrEnd = (codes "when", true) ∷ (codes "end", false) ∷ []
+ends_of until.FrameOrEnd = (codes "frame", true) ∷ (codes "end", false) ∷ []
+
+-- the nodes of a diagram, and the word that ends it
 abbrev pub Inside : Type 1
-Inside = (D : Type 0) → (Token → Option D) → Grammar Token (List Node × D)
+Inside = Until → Grammar Token (List Node × Bool)
 
 -- one more; or the last, after `end`
 abbrev pub more_or_end : {A : Type 0} → A → Bool → Grammar Token (A ⊎ A)
@@ -116,38 +129,32 @@ abbrev pub branch_rest : Inside → ℕ → SelectorFirst → Grammar Token (Bra
 branch_rest inside n c = do
   ss ← selectors c
   ws ← gives n
-  nodes ← inside Bool (either_word (codes "when") (codes "end"))
+  nodes ← inside until.WhenOrEnd
   more_or_end (record { selectors = ss; gives = ws; body = record { nodes = nodes.0 } }) nodes.1
 
 -- ---- frames
 
 -- a frame after the end of its `frame` line, up to the next `frame` or the end of the sequence
-abbrev pub frame_rest : Inside → List (List ℕ × LineWord) → Grammar Token (SequenceFrame ⊎ SequenceFrame)
-frame_rest inside rows = do
-  lines ← lines_to rows (word (codes "do"))
+abbrev pub frame_rest : Inside → Border → Grammar Token (SequenceFrame ⊎ SequenceFrame)
+frame_rest inside b = do
+  lines ← lines_to b (codes "do")
   e ← take eol
-  nodes ← inside Bool (either_word (codes "frame") (codes "end"))
+  nodes ← inside until.FrameOrEnd
   more_or_end (record { lines = lines.0; body = record { nodes = nodes.0 } }) nodes.1
 
 abbrev pub further_frames : Inside → (SequenceFrame ⊎ SequenceFrame) → Grammar Token (List SequenceFrame)
 further_frames inside (inl f) = do
-  fs ← loop eol (λ e. frame_rest inside frame_lines)
+  fs ← loop eol (λ e. frame_rest inside border.Frame)
   give (f ∷ and_last fs)
 further_frames inside (inr f) = give (f ∷ [])
 
 -- ---- nodes
 
-abbrev pub is_structure : NodeWord → Bool
-is_structure word_of.For = true
-is_structure word_of.While = true
-is_structure word_of.Case = true
-is_structure word_of.Sequence = true
-is_structure word_of.InPlace = true
-is_structure _ = false
-
+-- a structure only where a level is left
 abbrev pub fitting_node : ℕ → Option NodeWord → Option NodeWord
 fitting_node n None = None
-fitting_node n (Some w) = if is_structure w then (if is_above n then Some w else None) else Some w
+fitting_node n (Some (word_of.Plain w)) = Some (word_of.Plain w)
+fitting_node n (Some (word_of.Structure w)) = if is_above n then Some (word_of.Structure w) else None
 
 -- how a node begins inside which so many levels of structures may stand
 abbrev pub node_first : ℕ → ℕ → Token → Option NodeWord
@@ -158,21 +165,6 @@ node_or_end rest (inl w) = do
   n ← rest w
   give (inl n)
 node_or_end rest (inr d) = give (inr d)
-
--- `do`, nodes and `end`, each with its line's end
-abbrev pub body_to_end : Inside → Grammar Token (List Node)
-body_to_end inside = do
-  d ← take eol
-  nodes ← inside (Unit {0}) (word (codes "end"))
-  e ← take eol
-  give nodes.0
-
--- lines of these kinds, and a diagram
-abbrev pub lines_and_body : Inside → List (List ℕ × LineWord) → Grammar Token (List Tunnel × List Node)
-lines_and_body inside rows = do
-  lines ← lines_to rows (word (codes "do"))
-  nodes ← body_to_end inside
-  give (lines.0, nodes)
 
 -- an operation after its word
 abbrev pub operation_rest : Operation → Grammar Token Node
@@ -191,71 +183,83 @@ operation_rest (operation.Shared s) = do
   w ← operands
   give (node.Shared s w.0 w.1)
 
--- a node of this version after its first word, with such diagrams inside it
-abbrev pub node_rest_of : ℕ → Inside → NodeWord → Grammar Token Node
-node_rest_of v inside word_of.Const = do
+-- a node without diagrams after its first word
+abbrev pub plain_rest : PlainWord → Grammar Token Node
+plain_rest plain.Const = do
   t ← types 8 true
   l ← literals 8 true
   o ← to_wire
   give (node.Const t l o)
-node_rest_of v inside (word_of.Operation o) = operation_rest o
-node_rest_of v inside word_of.Obtain = do
+plain_rest (plain.Operation o) = operation_rest o
+plain_rest plain.Obtain = do
   q ← take text
   n ← take queue_size
   t ← types 8 true
   o ← to_wire
   give (node.Obtain q n t o)
-node_rest_of v inside word_of.Read = do
+plain_rest plain.Read = do
   n ← take name
   o ← to_wire
   give (node.Read n o)
-node_rest_of v inside word_of.Write = do
+plain_rest plain.Write = do
   n ← take name
   i ← last_wire
   give (node.Write n i)
-node_rest_of v inside word_of.Call = do
+plain_rest plain.Call = do
   n ← take name
   w ← operands
   give (node.Call n w.0 w.1)
-node_rest_of v inside word_of.For = do
+
+-- lines of a border, `do`, nodes and `end`, each with its line's end
+abbrev pub lines_and_body : Inside → Border → Grammar Token (List Tunnel × List Node)
+lines_and_body inside b = do
+  lines ← lines_to b (codes "do")
+  d ← take eol
+  nodes ← inside until.End
+  e ← take eol
+  give (lines.0, nodes.0)
+
+-- a structure of this version after its first word, with such diagrams inside it
+abbrev pub structure_rest : ℕ → Inside → StructureWord → Grammar Token Node
+structure_rest v inside structure.For = do
   n ← take wire
   i ← to_wire
-  b ← lines_and_body inside for_lines
+  b ← lines_and_body inside border.For
   give (node.For n i b.0 (record { nodes = b.1 }))
-node_rest_of v inside word_of.While = do
+structure_rest v inside structure.While = do
   s ← take wire
   i ← to_wire
-  b ← lines_and_body inside while_lines
+  b ← lines_and_body inside border.While
   give (node.While s i b.0 (record { nodes = b.1 }))
-node_rest_of v inside word_of.Case = do
+structure_rest v inside structure.Case = do
   w ← last_wire
-  lines ← lines_to case_lines (word (codes "when"))
+  lines ← lines_to border.Case (codes "when")
   branches ← loop selector_first (branch_rest inside (results lines.0))
   give (node.Case w lines.0 (and_last branches))
-node_rest_of v inside word_of.Sequence = do
+structure_rest v inside structure.Sequence = do
   e ← take eol
   x ← take (word (codes "frame"))
   f ← take eol
-  first ← frame_rest inside first_frame_lines
+  first ← frame_rest inside border.FirstFrame
   frames ← further_frames inside first
   give (node.Sequence frames)
-node_rest_of v inside word_of.InPlace = do
+structure_rest v inside structure.InPlace = do
   e ← take eol
-  b ← lines_and_body inside place_lines
+  b ← lines_and_body inside border.InPlace
   give (node.InPlace b.0 (record { nodes = b.1 }))
 
--- no diagrams
-abbrev pub none_inside : Inside
-none_inside D q = nothing
+abbrev pub word_rest : (StructureWord → Grammar Token Node) → NodeWord → Grammar Token Node
+word_rest structures (word_of.Plain w) = plain_rest w
+word_rest structures (word_of.Structure w) = structures w
 
-abbrev pub nodes_to : (Token → Option NodeWord) → (NodeWord → Grammar Token Node) → Inside
-nodes_to begin rest D q = loop (or_else begin q) (node_or_end rest)
+abbrev pub nodes_of : (Token → Option NodeWord) → (NodeWord → Grammar Token Node) → Inside
+nodes_of begin rest u = loop (or_else begin (word_in (ends_of u))) (node_or_end rest)
 
 -- a node after its first word, inside which so many levels of structures may stand
 unfoldable pub node_rest : ℕ → ℕ → NodeWord → Grammar Token Node
-node_rest v zero w = node_rest_of v none_inside w
-node_rest v (suc n) w = node_rest_of v (nodes_to (node_first v n) (node_rest v n)) w
+node_rest v zero w = word_rest (λ s. nothing) w
+node_rest v (suc n) w = word_rest (structure_rest v (nodes_of (node_first v n) (node_rest v n))) w
 
 -- nodes inside which so many levels of structures may stand
 abbrev pub nodes : ℕ → ℕ → Inside
-nodes v n = nodes_to (node_first v n) (node_rest v n)
+nodes v n = nodes_of (node_first v n) (node_rest v n)

@@ -8,6 +8,8 @@ use Rattle.g_words.specs.Operations.{lookup, operation_named}
 use Rattle.g_words.specs.declared.Operation.{Operation}
 use Rattle.g_syntax.specs.declared.NodeWord.{NodeWord}
 use Rattle.g_syntax.specs.declared.NodeWord.TheVariants as node
+use Rattle.g_syntax.specs.declared.PlainWord.TheVariants as plain
+use Rattle.g_syntax.specs.declared.StructureWord.TheVariants as structure
 use Rattle.g_syntax.specs.declared.TypeWord.{TypeWord}
 use Rattle.g_syntax.specs.declared.TypeWord.TheVariants as type
 
@@ -20,13 +22,15 @@ type_words =
 -- the words that begin nodes, but for those of operations
 abbrev pub node_words : List (List ℕ × NodeWord)
 node_words =
-    (codes "const", node.Const) ∷ (codes "obtain", node.Obtain) ∷ (codes "read", node.Read) ∷ (codes "write", node.Write) ∷ (codes "call", node.Call)
-    ∷ (codes "for", node.For) ∷ (codes "while", node.While) ∷ (codes "case", node.Case) ∷ (codes "sequence", node.Sequence) ∷ (codes "inplace", node.InPlace) ∷ []
+    (codes "const", node.Plain plain.Const) ∷ (codes "obtain", node.Plain plain.Obtain) ∷ (codes "read", node.Plain plain.Read)
+    ∷ (codes "write", node.Plain plain.Write) ∷ (codes "call", node.Plain plain.Call)
+    ∷ (codes "for", node.Structure structure.For) ∷ (codes "while", node.Structure structure.While) ∷ (codes "case", node.Structure structure.Case)
+    ∷ (codes "sequence", node.Structure structure.Sequence) ∷ (codes "inplace", node.Structure structure.InPlace) ∷ []
 
 abbrev pub or_operation : Option NodeWord → Option Operation → Option NodeWord
 or_operation (Some w) o = Some w
 or_operation None None = None
-or_operation None (Some op) = Some (node.Operation op)
+or_operation None (Some op) = Some (node.Plain (plain.Operation op))
 
 -- how a node begins in listings of this version
 abbrev pub node_named : ℕ → List ℕ → Option NodeWord
@@ -43,10 +47,6 @@ word_in rows _ = None
 
 abbrev pub word : List ℕ → Token → Option (Unit {0})
 word w = word_in ((w, tt) ∷ [])
-
--- one of two words, of which the first is TRUE
-abbrev pub either_word : List ℕ → List ℕ → Token → Option Bool
-either_word first second = word_in ((first, true) ∷ (second, false) ∷ [])
 
 abbrev pub name : Token → Option (List ℕ)
 name (token.Word w) = Some w

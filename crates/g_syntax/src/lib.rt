@@ -26,19 +26,50 @@ pub enum LiteralFirst {
     Cluster,
 }
 
-/// How a node begins.
+/// How a node without diagrams begins.
 #[derive(Clone, Copy, Debug, PartialEq, Eq)]
-pub enum NodeWord {
+pub enum PlainWord {
     Const,
     Operation(Operation),
     Obtain,
     Read,
     Write,
     Call,
+}
+
+/// How a structure begins.
+#[derive(Clone, Copy, Debug, PartialEq, Eq)]
+pub enum StructureWord {
     For,
     While,
     Case,
     Sequence,
+    InPlace,
+}
+
+/// How a node begins.
+#[derive(Clone, Copy, Debug, PartialEq, Eq)]
+pub enum NodeWord {
+    Plain(PlainWord),
+    Structure(StructureWord),
+}
+
+/// Which words end the nodes of a diagram.
+#[derive(Clone, Copy, Debug, PartialEq, Eq)]
+pub enum Until {
+    End,
+    WhenOrEnd,
+    FrameOrEnd,
+}
+
+/// A border of a structure, by the kinds of line that it has.
+#[derive(Clone, Copy, Debug, PartialEq, Eq)]
+pub enum Border {
+    For,
+    While,
+    Case,
+    FirstFrame,
+    Frame,
     InPlace,
 }
 
