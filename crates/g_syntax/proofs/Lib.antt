@@ -1,3 +1,4 @@
+pub mod Examples
 pub mod LiveBorders
 pub mod LiveListing
 pub mod LiveLiterals

@@ -58,7 +58,7 @@ live_last_wire = live_bind live_wire λ o. live_bind live_eol λ e. live_give o
 pub live_to_wire : Live to_wire
 live_to_wire = live_bind live_arrow λ x. live_last_wire
 
-live_across : Live across
+pub live_across : Live across
 live_across = live_bind live_wire λ i. live_bind live_to_wire λ o. live_give (i, o)
 
 live_turned : Live turned

@@ -81,12 +81,11 @@ body_ends v = ap (λ (o : Option (_ ⊎ Unit {0})). either (word_in panel_words 
 live_vi : (v : ℕ) → Live (vi_rest v)
 live_vi v =
     live_bind live_name λ n.
-    live_bind (live_take token.Eol header.Eol refl) λ h.
-    live_bind (live_kind h) λ kind.
+    live_bind (live_bind (live_take token.Eol header.Eol refl) live_kind) λ k.
     live_bind (live_loop (body_first v) (body_item v) (live_body_item v) an_end (inr (inr tt)) [] None (body_ends v) (refl, refl)) λ panel.
     live_bind (live_nodes_after v panel.1) λ ns.
     live_bind live_eol λ e.
-    live_give (record { name = n; clones = kind.0; system = kind.1; panel = panel.0; top = record { nodes = ns } })
+    live_give (record { name = n; clones = k.0; system = k.1; panel = panel.0; top = record { nodes = ns } })
 
 live_vi_or_end : (v : ℕ) (c : Unit {0} ⊎ Unit {0}) → Live (vi_or_end v c)
 live_vi_or_end v (inl x) = live_bind (live_vi v) λ i. live_give (inl i)

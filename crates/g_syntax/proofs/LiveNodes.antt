@@ -31,7 +31,7 @@ use Rattle.g_syntax.specs.declared.SelectorFirst.TheVariants as first
 use Rattle.g_syntax.specs.Words.{node_word, word, word_in, wire, eol, comma_or_eol}
 use Rattle.g_syntax.specs.Borders.{lines_of}
 use Rattle.g_syntax.specs.Nodes.{selector_first, range_rest, selector_rest, more_or_last, selector_item, and_last, further_selectors, selectors, results, gives, ends_of, Inside, more_or_end, branch_rest, frame_rest, further_frames, fitting_node, node_first, node_or_end, lines_and_body, operation_rest, plain_rest, structure_rest, node_rest, nodes}
-use Rattle.g_syntax.proofs.LiveBorders.{live_name, live_wire, live_eol, live_field, live_type, live_literal, live_operands, live_last_wire, live_to_wire, live_lines}
+use Rattle.g_syntax.proofs.LiveBorders.{live_name, live_wire, live_eol, live_field, live_type, live_literal, live_operands, live_last_wire, live_to_wire, live_across, live_lines}
 
 -- ---- selectors
 
@@ -186,9 +186,9 @@ live_lines_and_body inside ready b e =
 
 live_structure : (v : ℕ) (inside : Inside) → Ready inside → (w : StructureWord) → Live (structure_rest v inside w)
 live_structure v inside ready structure.For =
-    live_bind live_wire λ n. live_bind live_to_wire λ i. live_bind (live_lines_and_body inside ready border.For refl) λ b. live_give (node.For n i b.0 (record { nodes = b.1 }))
+    live_bind live_across λ w. live_bind (live_lines_and_body inside ready border.For refl) λ b. live_give (node.For w.0 w.1 b.0 (record { nodes = b.1 }))
 live_structure v inside ready structure.While =
-    live_bind live_wire λ s. live_bind live_to_wire λ i. live_bind (live_lines_and_body inside ready border.While refl) λ b. live_give (node.While s i b.0 (record { nodes = b.1 }))
+    live_bind live_across λ w. live_bind (live_lines_and_body inside ready border.While refl) λ b. live_give (node.While w.0 w.1 b.0 (record { nodes = b.1 }))
 live_structure v inside ready structure.Case =
     live_bind live_last_wire λ w.
     live_bind (live_lines border.Case (codes "when") refl) λ lines.
@@ -198,8 +198,7 @@ live_structure v inside ready structure.Case =
 live_structure v inside ready structure.Sequence =
     live_bind live_eol λ e.
     live_bind (live_take (token.Word (codes "frame")) tt refl) λ x.
-    live_bind live_eol λ f.
-    live_bind (live_frame inside ready border.FirstFrame refl) λ first.
+    live_bind (live_bind live_eol λ f. live_frame inside ready border.FirstFrame refl) λ first.
     live_bind (live_frames inside ready first) λ frames.
     live_give (node.Sequence frames)
 live_structure v inside ready structure.InPlace =

@@ -1,7 +1,7 @@
 -- VIs and listings.
-use Rattle.std.specs.Prelude.{ℕ, pos, Bool, true, false, List, [], ◌∷◌, Option, Some, None, codes, ◌⊎◌, if◌then◌else◌}
+use Rattle.std.specs.Prelude.{◌≡◌, ℕ, pos, Bool, true, false, List, [], ◌∷◌, ◌++◌, Option, Some, None, codes, ◌⊎◌, if◌then◌else◌}
 use Rattle.std.proofs.Common.{inl, inr}
-use Rattle.g_grammar.specs.Grammar.{Grammar, give, take, loop, ◌>>=◌, Has, or_else, IsRefused}
+use Rattle.g_grammar.specs.Grammar.{Grammar, give, take, loop, ◌>>=◌, Has, or_else, Like}
 use Rattle.g_types.specs.declared.ty.Ty.{Ty}
 use Rattle.g_diagram.specs.declared.panel.PanelItem.{PanelItem}
 use Rattle.g_diagram.specs.declared.panel.PanelItem.TheVariants as panel
@@ -15,6 +15,8 @@ use Rattle.g_diagram.specs.declared.hierarchy.Hierarchy.{Hierarchy}
 use Rattle.g_tokens.specs.declared.token.Token.{Token}
 use Rattle.g_tokens.specs.declared.token.Token.TheVariants as token
 use Rattle.g_tokens.specs.declared.token.Mark.TheVariants as mark
+use Rattle.g_tokens.specs.declared.token.Spot.{Spot}
+use Rattle.g_tokens.specs.Tokens.{placed_tokens, tokens_of}
 use Rattle.g_words.specs.Operations.{lookup}
 use Rattle.g_syntax.specs.declared.NodeWord.{NodeWord}
 use Rattle.g_syntax.specs.declared.Until.TheVariants as until
@@ -76,6 +78,10 @@ kind_rest (header.Clones clones_word.Pool) = do
   after_clones (clones.Pool n)
 kind_rest (header.System s) = system_end clones.NonReentrant (Some s)
 kind_rest header.Eol = give (clones.NonReentrant, system.Same)
+
+-- what stands after a VI's name, up to the end of its line
+abbrev pub kind : Grammar Token Kind
+kind = take header_word >>= kind_rest
 
 -- ---- the panel
 
@@ -147,12 +153,11 @@ nodes_after v (Some n) = do
 abbrev pub vi_rest : ℕ → Grammar Token Vi
 vi_rest v = do
   n ← take name
-  h ← take header_word
-  kind ← kind_rest h
+  k ← kind
   panel ← loop (body_first v) (body_item v)
   ns ← nodes_after v panel.1
   e ← take eol
-  give (record { name = n; clones = kind.0; system = kind.1; panel = panel.0; top = record { nodes = ns } })
+  give (record { name = n; clones = k.0; system = k.1; panel = panel.0; top = record { nodes = ns } })
 
 -- ---- a listing
 
@@ -188,3 +193,23 @@ listing = do
 -- the tokens, all of them, have this hierarchy
 abbrev pub HasHierarchy : List Token → Hierarchy → Type 0
 HasHierarchy ts h = Has listing ts h []
+
+-- the bytes have this hierarchy: their tokens do
+abbrev pub IsListing : List ℕ → Hierarchy → Type 0
+IsListing bytes h = HasHierarchy (tokens_of (placed_tokens bytes)) h
+
+-- the place of the first of these tokens, or where there is none that of the last of all
+abbrev pub IsPlace : List (Token × Spot) → List (Token × Spot) → Spot → Type 0
+IsPlace all [] spot = (before : List (Token × Spot)) × (t : Token) × (all ≡ before ++ (t, spot) ∷ [])
+IsPlace all (x ∷ bad) spot = x.1 ≡ spot
+
+-- Where the bytes are refused: no listing has the tokens before and then the refused one, and some listing goes on from the tokens before.
+pub record IsRefusedAt (bytes : List ℕ) (spot : Spot) : Type 0 where
+  pub before : List (Token × Spot)
+  pub bad : List (Token × Spot)
+  pub split : placed_tokens bytes ≡ before ++ bad
+  pub place : IsPlace (placed_tokens bytes) bad spot
+  pub refused : (s : List Token) (h : Hierarchy) → Like (tokens_of bad) s → HasHierarchy (tokens_of before ++ s) h → ⊥
+  pub completion : List Token
+  pub hierarchy : Hierarchy
+  pub completed : HasHierarchy (tokens_of before ++ completion) hierarchy

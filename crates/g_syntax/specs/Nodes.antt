@@ -32,7 +32,7 @@ use Rattle.g_syntax.specs.declared.SelectorFirst.TheVariants as first
 use Rattle.g_syntax.specs.Words.{node_word, word, word_in, name, text, wire, eol, comma_or_eol, number, field_number, queue_size}
 use Rattle.g_syntax.specs.Types.{types, is_above}
 use Rattle.g_syntax.specs.Literals.{literals}
-use Rattle.g_syntax.specs.Borders.{Wire, operands, last_wire, to_wire, lines_to}
+use Rattle.g_syntax.specs.Borders.{Wire, operands, last_wire, to_wire, across, lines_to}
 
 -- ---- selectors
 
@@ -142,6 +142,12 @@ frame_rest inside b = do
   nodes ← inside until.FrameOrEnd
   more_or_end (record { lines = lines.0; body = record { nodes = nodes.0 } }) nodes.1
 
+-- a frame after `frame`
+abbrev pub framed : Inside → Border → Grammar Token (SequenceFrame ⊎ SequenceFrame)
+framed inside b = do
+  e ← take eol
+  frame_rest inside b
+
 abbrev pub further_frames : Inside → (SequenceFrame ⊎ SequenceFrame) → Grammar Token (List SequenceFrame)
 further_frames inside (inl f) = do
   fs ← loop eol (λ e. frame_rest inside border.Frame)
@@ -222,15 +228,13 @@ lines_and_body inside b = do
 -- a structure of this version after its first word, with such diagrams inside it
 abbrev pub structure_rest : ℕ → Inside → StructureWord → Grammar Token Node
 structure_rest v inside structure.For = do
-  n ← take wire
-  i ← to_wire
+  w ← across
   b ← lines_and_body inside border.For
-  give (node.For n i b.0 (record { nodes = b.1 }))
+  give (node.For w.0 w.1 b.0 (record { nodes = b.1 }))
 structure_rest v inside structure.While = do
-  s ← take wire
-  i ← to_wire
+  w ← across
   b ← lines_and_body inside border.While
-  give (node.While s i b.0 (record { nodes = b.1 }))
+  give (node.While w.0 w.1 b.0 (record { nodes = b.1 }))
 structure_rest v inside structure.Case = do
   w ← last_wire
   lines ← lines_to border.Case (codes "when")
@@ -239,8 +243,7 @@ structure_rest v inside structure.Case = do
 structure_rest v inside structure.Sequence = do
   e ← take eol
   x ← take (word (codes "frame"))
-  f ← take eol
-  first ← frame_rest inside border.FirstFrame
+  first ← framed inside border.FirstFrame
   frames ← further_frames inside first
   give (node.Sequence frames)
 structure_rest v inside structure.InPlace = do

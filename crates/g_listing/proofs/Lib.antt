@@ -1,0 +1,4 @@
+pub mod Gives
+pub mod Levels
+pub mod Refusals
+pub mod Results
