@@ -1,5 +1,6 @@
 -- The place of the refused token.
-use Rattle.std.proofs.Common.{◌≡◌, ℕ, zero, suc, ◌+◌, ◌-◌, ◌<◌, ◌≤◌, List, [], ◌∷◌, ◌++◌, length, map, Option, Some, None, refl, sym, ap, subst, ◌∙◌, arith, length-append, length-map}
+use Rattle.std.proofs.Common.{◌≡◌, ℕ, zero, suc, ◌+◌, ◌-◌, ◌<◌, ◌≤◌, List, [], ◌∷◌, ◌++◌, length, map, Option, Some, None, refl, sym, ap, subst, ◌∙◌, arith, append_assoc, length-append, length-map}
+use Rattle.std.proofs.lemmas.List.{append-nil, map-append}
 use Rattle.std.specs.Prelude.{Ok, Err, slice_get, ◌==◌, Bool, true, false}
 use Rattle.g_grammar.specs.Grammar.{Read, read, all_read, IsRefused, Like}
 use Rattle.g_grammar.proofs.Live.{all_ok, all_err}
@@ -8,38 +9,33 @@ use Rattle.g_tokens.specs.declared.token.Token.{Token}
 use Rattle.g_tokens.specs.declared.token.Token.TheVariants as token
 use Rattle.g_tokens.specs.declared.token.Spot.{Spot}
 use Rattle.g_tokens.specs.Tokens.{lines, cut, lines_tokens, line_tokens, lexemes, content, placed, placed_tokens, tokens_of, places_of}
-use Rattle.g_syntax.specs.Listing.{listing, HasHierarchy, IsListing, IsPlace, IsRefusedAt}
+use Rattle.g_syntax.specs.Listing.{listing, HasHierarchy, IsListing}
 use Rattle.g_syntax.proofs.LiveListing.{live_listing}
 use Rattle.g_listing.specs.declared.listing.ListingRefused.TheVariants as refused
 use Rattle.g_listing.specs.Refusal.{IsRefusal}
+use Rattle.g_listing.proofs.Lacks.{Ends, listing_ends, nothing_after}
 
--- ---- there is a last token
+-- ---- the last token is END
 
-some_line : (n : ℕ) (l : List ℕ) (ls : List (List ℕ)) → 0 < length (lines_tokens n (l ∷ ls))
-some_line n l [] =
-    let a : List (Token × Spot) = line_tokens n (lexemes true 0 0 (content l)) in
-    let e : List (Token × Spot) = placed n token.End (length l) ∷ [] in
-    let len : length (a ++ e) ≡ length a + 1 = length-append a e in
-    omega (arith, len)
-some_line n l (m ∷ ls) =
-    let a : List (Token × Spot) = line_tokens n (lexemes true 0 0 (content l)) in
-    let len : length (a ++ lines_tokens (suc n) (m ∷ ls)) ≡ length a + length (lines_tokens (suc n) (m ∷ ls)) = length-append a (lines_tokens (suc n) (m ∷ ls)) in
-    omega (arith, len, some_line (suc n) m ls)
+abbrev LastIsEnd : List Token → Type 0
+LastIsEnd ts = (pre : List Token) × (ts ≡ pre ++ token.End ∷ [])
 
-some_cut : (n : ℕ) (begun : List ℕ) (b : ℕ) (go : List ℕ → List (List ℕ)) → ((begun : List ℕ) → 0 < length (lines_tokens n (go begun))) → (v : Bool) → 0 < length (lines_tokens n (cut v begun b go))
-some_cut n begun b go ih true = some_line n begun (go [])
-some_cut n begun b go ih false = ih (begun ++ b ∷ [])
+further_end : (a b : List (Token × Spot)) → LastIsEnd (tokens_of b) → LastIsEnd (tokens_of (a ++ b))
+further_end a b h =
+    (tokens_of a ++ h.0, map-append (λ (x : Token × Spot). x.0) a b ∙ ap (λ (u : List Token). tokens_of a ++ u) h.1 ∙ sym (append_assoc (tokens_of a) h.0 (token.End ∷ [])))
 
-some_lines : (n : ℕ) (begun bytes : List ℕ) → 0 < length (lines_tokens n (lines begun bytes))
+line_end : (n : ℕ) (l : List ℕ) (ls : List (List ℕ)) → LastIsEnd (tokens_of (lines_tokens n (l ∷ ls)))
+line_end n l [] = further_end (line_tokens n (lexemes true 0 0 (content l))) (placed n token.End (length l) ∷ []) ([], refl)
+line_end n l (m ∷ ls) = further_end (line_tokens n (lexemes true 0 0 (content l))) (lines_tokens (suc n) (m ∷ ls)) (line_end (suc n) m ls)
+
+cut_end : (n : ℕ) (begun : List ℕ) (b : ℕ) (go : List ℕ → List (List ℕ)) → ((begun : List ℕ) → LastIsEnd (tokens_of (lines_tokens n (go begun)))) → (v : Bool) → LastIsEnd (tokens_of (lines_tokens n (cut v begun b go)))
+cut_end n begun b go ih true = line_end n begun (go [])
+cut_end n begun b go ih false = ih (begun ++ b ∷ [])
+
+lines_end : (n : ℕ) (begun bytes : List ℕ) → LastIsEnd (tokens_of (lines_tokens n (lines begun bytes)))
 unfolding lines
-some_lines n begun [] = some_line n begun []
-some_lines n begun (b ∷ bytes) = some_cut n begun b (λ l. lines l bytes) (λ l. some_lines n l bytes) (b == 10)
-
-pub some_token : (bytes : List ℕ) → 0 < length (placed_tokens bytes)
-some_token bytes = some_lines 1 [] bytes
-
-pub some_place : (bytes : List ℕ) (places : List Spot) → places ≡ places_of (placed_tokens bytes) → 0 < length places
-some_place bytes places e = omega (arith, some_token bytes, ap length e, length-map (λ (x : Token × Spot). x.1) (placed_tokens bytes))
+lines_end n begun [] = line_end n begun []
+lines_end n begun (b ∷ bytes) = cut_end n begun b (λ l. lines l bytes) (λ l. lines_end n l bytes) (b == 10)
 
 -- ---- tokens with their places
 
@@ -56,31 +52,18 @@ at_length : (a b : List (Token × Spot)) (x : Token × Spot) → slice_get (plac
 at_length [] b x = refl
 at_length (y ∷ a) b x = at_length a b x
 
-at_last : (l : List (Token × Spot)) (n : ℕ) (spot : Spot) → n + 1 ≡ length l → slice_get (places_of l) n ≡ Some spot → IsPlace l [] spot
-at_last [] n spot len e = absurd (omega arith)
-at_last (x ∷ []) zero spot len e = let s : x.1 ≡ spot = cc in ([], x.0, ap (λ (p : Spot). (x.0, p) ∷ []) s)
-at_last (x ∷ []) (suc n) spot len e = absurd (omega arith)
-at_last (x ∷ y ∷ l) zero spot len e = absurd (omega arith)
-at_last (x ∷ y ∷ l) (suc n) spot len e =
-    let r = at_last (y ∷ l) n spot (omega arith) e in
-    (x ∷ r.0, r.1, ap (λ (m : List (Token × Spot)). x ∷ m) r.2)
-
--- what `place` says
-pub record HasPlace (places : List Spot) (left : ℕ) (spot : Spot) : Type 0 where
-  pub first : 0 < left → slice_get places (length places - left) ≡ Some spot
-  pub last : left ≡ 0 → slice_get places (length places - 1) ≡ Some spot
-
-place_is : (l a b : List (Token × Spot)) (spot : Spot) → l ≡ a ++ b → 0 < length l → HasPlace (places_of l) (length b) spot → IsPlace l b spot
-place_is l a [] spot e some h =
-    let len : length (places_of l) ≡ length l = length-map (λ (x : Token × Spot). x.1) l in
-    at_last l (length (places_of l) - 1) spot (omega arith) (h.last refl)
-place_is l a (x ∷ b) spot e some h =
+place_is : (a b : List (Token × Spot)) (x : Token × Spot) (l : List (Token × Spot)) (spot : Spot) → l ≡ a ++ x ∷ b → slice_get (places_of l) (length (places_of l) - length (x ∷ b)) ≡ Some spot → x.1 ≡ spot
+place_is a b x l spot e h =
     let len : length (places_of l) ≡ length l = length-map (λ (x : Token × Spot). x.1) l in
     let n : length (places_of l) - length (x ∷ b) ≡ length a = omega (arith, ap length e, length-append a (x ∷ b)) in
-    let g : slice_get (places_of l) (length a) ≡ Some spot = ap (slice_get (places_of l)) (sym n) ∙ h.first (omega arith) in
+    let g : slice_get (places_of l) (length a) ≡ Some spot = ap (slice_get (places_of l)) (sym n) ∙ h in
     let k : slice_get (places_of l) (length a) ≡ Some x.1 = ap (λ (m : List (Token × Spot)). slice_get (places_of m) (length a)) e ∙ at_length a b x in
     let s : Some x.1 ≡ Some spot = sym k ∙ g in
     cc
+
+like_same : (l : List Token) → Like l l
+like_same [] = tt
+like_same (t ∷ l) = refl
 
 -- ---- the call
 
@@ -90,44 +73,69 @@ module _ (bytes : List ℕ) (ts : List Token) (places : List Spot) (tokens-are :
       let f : read listing ts ≡ Ok (h, []) = e ∙ ap (λ (r : List Token). Ok (h, r)) none in
       subst (λ (l : List Token). HasHierarchy l h) tokens-are (all_ok listing ts h (Ok (h, [])) f refl)
 
-  refused_at : (bad : List Token) (r : Read Token Hierarchy) (spot : Spot) → read listing ts ≡ r → all_read r ≡ Err bad → HasPlace places (length bad) spot → IsRefusal bytes (refused.Syntax spot)
-  refused_at bad r spot e f h =
-      let s = all_err listing live_listing ts bad r e f in
-      let q = split_map (λ (x : Token × Spot). x.0) (placed_tokens bytes) s.before bad (sym tokens-are ∙ s.place) in
-      let len : length bad ≡ length q.1 = sym (ap length q.4) ∙ length-map (λ (x : Token × Spot). x.0) q.1 in
-      let h2 : HasPlace (places_of (placed_tokens bytes)) (length q.1) spot = subst (λ (n : ℕ). HasPlace (places_of (placed_tokens bytes)) n spot) len (subst (λ (p : List Spot). HasPlace p (length bad) spot) places-are h) in
-      (
-        λ i has. s.refused bad i (like_same bad) (subst (λ (l : List Token). HasHierarchy l i) (sym tokens-are ∙ s.place) has),
-        record {
-          before = q.0;
-          bad = q.1;
-          split = q.2;
-          place = place_is (placed_tokens bytes) q.0 q.1 spot q.2 (some_token bytes) h2;
-          refused = λ u i like has. s.refused u i (subst (λ (l : List Token). Like l u) q.4 like) (subst (λ (l : List Token). HasHierarchy (l ++ u) i) q.3 has);
-          completion = s.completion;
-          hierarchy = s.value;
-          completed = subst (λ (l : List Token). HasHierarchy (l ++ s.completion) s.value) (sym q.3) s.completed;
-        },
-      )
-    where
-      like_same : (l : List Token) → Like l l
-      like_same [] = tt
-      like_same (t ∷ l) = refl
+  -- some token is refused
+  some_refused : IsRefused listing ts [] → ⊥
+  some_refused s =
+      let end = lines_end 1 [] bytes in
+      let before : s.before ≡ end.0 ++ token.End ∷ [] = sym (append-nil s.before) ∙ sym s.place ∙ tokens-are ∙ end.1 in
+      let whole : Ends ((end.0 ++ token.End ∷ []) ++ s.completion) [] = subst (λ (u : List Token). Ends (u ++ s.completion) []) before (listing_ends (s.before ++ s.completion) [] s.value s.completed) in
+      let none : s.completion ≡ [] = nothing_after end.0 s.completion whole in
+      s.refused [] s.value tt (subst (λ (u : List Token). HasHierarchy (s.before ++ u) s.value) none s.completed)
 
-  pub refused_after : (h : Hierarchy) (rest : List Token) (spot : Spot) → read listing ts ≡ Ok (h, rest) → (rest ≡ [] → ⊥) → HasPlace places (length rest) spot → IsRefusal bytes (refused.Syntax spot)
+  refused_at : (bad : List Token) (r : Read Token Hierarchy) (spot : Spot) → read listing ts ≡ r → all_read r ≡ Err bad → slice_get places (length places - length bad) ≡ Some spot → IsRefusal bytes (refused.Syntax spot)
+  refused_at bad r spot e f h = go bad (all_err listing live_listing ts bad r e f) h
+    where
+      at_token : (bad : List Token) (s : IsRefused listing ts bad) (a b : List (Token × Spot)) (x : Token × Spot) → placed_tokens bytes ≡ a ++ x ∷ b → tokens_of a ≡ s.before → tokens_of (x ∷ b) ≡ bad
+          → slice_get places (length places - length bad) ≡ Some spot → IsRefusal bytes (refused.Syntax spot)
+      at_token bad s a b x split before rest h =
+          let len : length bad ≡ length (x ∷ b) = sym (ap length rest) ∙ length-map (λ (x : Token × Spot). x.0) (x ∷ b) in
+          let h2 : slice_get (places_of (placed_tokens bytes)) (length (places_of (placed_tokens bytes)) - length (x ∷ b)) ≡ Some spot =
+          subst (λ (n : ℕ). slice_get (places_of (placed_tokens bytes)) (length (places_of (placed_tokens bytes)) - n) ≡ Some spot) len (subst (λ (p : List Spot). slice_get p (length p - length bad) ≡ Some spot) places-are h) in
+          let there : x.1 ≡ spot = place_is a b x (placed_tokens bytes) spot split h2 in
+          (
+            λ i has. s.refused bad i (like_same bad) (subst (λ (l : List Token). HasHierarchy l i) (sym tokens-are ∙ s.place) has),
+            record {
+              before = a;
+              token = x.0;
+              after = b;
+              split = split ∙ ap (λ (p : Spot). a ++ (x.0, p) ∷ b) there;
+              refused = λ u i has. s.refused (x.0 ∷ u) i (subst (λ (l : List Token). Like l (x.0 ∷ u)) rest refl) (subst (λ (l : List Token). HasHierarchy (l ++ x.0 ∷ u) i) before has);
+              completion = s.completion;
+              hierarchy = s.value;
+              completed = subst (λ (l : List Token). HasHierarchy (l ++ s.completion) s.value) (sym before) s.completed;
+            },
+          )
+      split_at : (bad : List Token) (s : IsRefused listing ts bad) (a b : List (Token × Spot)) → placed_tokens bytes ≡ a ++ b → tokens_of a ≡ s.before → tokens_of b ≡ bad
+          → slice_get places (length places - length bad) ≡ Some spot → IsRefusal bytes (refused.Syntax spot)
+      split_at bad s a [] split before rest h = absurd (some_refused (subst (λ (l : List Token). IsRefused listing ts l) (sym rest) s))
+      split_at bad s a (x ∷ b) split before rest h = at_token bad s a b x split before rest h
+      go : (bad : List Token) → IsRefused listing ts bad → slice_get places (length places - length bad) ≡ Some spot → IsRefusal bytes (refused.Syntax spot)
+      go bad s h =
+          let q = split_map (λ (x : Token × Spot). x.0) (placed_tokens bytes) s.before bad (sym tokens-are ∙ s.place) in
+          split_at bad s q.0 q.1 q.2 q.3 q.4 h
+
+  pub refused_after : (h : Hierarchy) (rest : List Token) (spot : Spot) → read listing ts ≡ Ok (h, rest) → (rest ≡ [] → ⊥) → slice_get places (length places - length rest) ≡ Some spot → IsRefusal bytes (refused.Syntax spot)
   refused_after h [] spot e some p = absurd (some refl)
   refused_after h (t ∷ rest) spot e some p = refused_at (t ∷ rest) (Ok (h, t ∷ rest)) spot e refl p
 
-  pub refused_in : (bad : List Token) (spot : Spot) → read listing ts ≡ Err bad → HasPlace places (length bad) spot → IsRefusal bytes (refused.Syntax spot)
+  pub refused_in : (bad : List Token) (spot : Spot) → read listing ts ≡ Err bad → slice_get places (length places - length bad) ≡ Some spot → IsRefusal bytes (refused.Syntax spot)
   refused_in bad spot e p = refused_at bad (Err bad) spot e refl p
 
-  pub few_left : (bad : List Token) → read listing ts ≡ Err bad → length bad ≤ length places
-  few_left bad e =
-      let s = all_err listing live_listing ts bad (Err bad) e refl in
+  within : (bad : List Token) → IsRefused listing ts bad → length bad ≤ length places
+  within bad s =
       omega (arith, ap length s.place, length-append s.before bad, ap length tokens-are, ap length places-are, length-map (λ (x : Token × Spot). x.0) (placed_tokens bytes), length-map (λ (x : Token × Spot). x.1) (placed_tokens bytes))
+
+  pub few_left : (bad : List Token) → read listing ts ≡ Err bad → length bad ≤ length places
+  few_left bad e = within bad (all_err listing live_listing ts bad (Err bad) e refl)
+
+  pub some_left : (bad : List Token) → read listing ts ≡ Err bad → 0 < length bad
+  some_left [] e = absurd (some_refused (all_err listing live_listing ts [] (Err []) e refl))
+  some_left (t ∷ bad) e = omega arith
 
   pub few_after : (h : Hierarchy) (rest : List Token) → read listing ts ≡ Ok (h, rest) → (rest ≡ [] → ⊥) → length rest ≤ length places
   few_after h [] e some = absurd (some refl)
-  few_after h (t ∷ rest) e some =
-      let s = all_err listing live_listing ts (t ∷ rest) (Ok (h, t ∷ rest)) e refl in
-      omega (arith, ap length s.place, length-append s.before (t ∷ rest), ap length tokens-are, ap length places-are, length-map (λ (x : Token × Spot). x.0) (placed_tokens bytes), length-map (λ (x : Token × Spot). x.1) (placed_tokens bytes))
+  few_after h (t ∷ rest) e some = within (t ∷ rest) (all_err listing live_listing ts (t ∷ rest) (Ok (h, t ∷ rest)) e refl)
+
+pub some_after : (rest : List Token) → (rest ≡ [] → ⊥) → 0 < length rest
+some_after [] some = absurd (some refl)
+some_after (t ∷ rest) some = omega arith

@@ -1,5 +1,5 @@
 -- One line more of a case.
-use Rattle.std.proofs.Common.{◌≡◌, ℕ, suc, ◌+◌, ◌<◌, Bool, true, false, List, [], ◌∷◌, length, drop, get_or, refl, sym, ap, ◌∙◌, arith, add-one}
+use Rattle.std.proofs.Common.{◌≡◌, ℕ, suc, ◌+◌, ◌<◌, true, false, List, ◌∷◌, length, drop, get_or, refl, sym, ap, ◌∙◌, arith, add-one}
 use Rattle.std.proofs.Math.Seq.{drop-cons}
 use Rattle.g_diagram.specs.declared.node.Tunnel.{Tunnel}
 use Rattle.g_diagram.specs.declared.node.Tunnel.TheVariants as tunnel
@@ -31,3 +31,17 @@ no_result (tunnel.Carry a b) ls e = refl
 no_result (tunnel.Ref a b c d f) ls e = refl
 no_result (tunnel.Element a b c d f) ls e = refl
 no_result (tunnel.Field a b c d f) ls e = refl
+
+module _ (ls : List Tunnel) (i : ℕ) (x : Tunnel) (lt : i < length ls) (is : x ≡ get_or ls i x) where
+  here : drop i ls ≡ x ∷ drop (i + 1) ls
+  here = drop-cons ls i x lt ∙ ap (λ (y : Tunnel). y ∷ drop (suc i) ls) (sym is) ∙ ap (λ (k : ℕ). x ∷ drop k ls) (sym (add-one i))
+
+  pub counts_one : (count total : ℕ) → is_result x ≡ true → count + results (drop i ls) ≡ total → (count + 1) + results (drop (i + 1) ls) ≡ total
+  counts_one count total yes so_far =
+      let e : results (drop i ls) ≡ suc (results (drop (i + 1) ls)) = ap results here ∙ one_result x (drop (i + 1) ls) yes in
+      omega (arith, e, so_far)
+
+  pub counts_none : (count total : ℕ) → is_result x ≡ false → count + results (drop i ls) ≡ total → count + results (drop (i + 1) ls) ≡ total
+  counts_none count total no so_far =
+      let e : results (drop i ls) ≡ results (drop (i + 1) ls) = ap results here ∙ no_result x (drop (i + 1) ls) no in
+      omega (arith, e, so_far)

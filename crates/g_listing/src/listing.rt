@@ -18,16 +18,12 @@ pub enum ListingRefused {
     Memory(AllocError),
 }
 
-/// The place of the first of the last so many tokens; of the last one where there are none.
+/// The place of the first of the last so many tokens.
 fn place(places: &[Spot], left: usize) -> Spot
-    requires some { 0 < length places.now }
+    requires some { 0 < left }
     requires within { left ≤ length places.now }
-    ensures first { 0 < left → slice_get places.now (length places.now - left) ≡ Some result }
-    ensures last { left ≡ 0 → slice_get places.now (length places.now - 1) ≡ Some result }
+    ensures { slice_get places.now (length places.now - left) ≡ Some result }
 {
-    if left == 0 {
-        return places[places.len() - 1];
-    }
     places[places.len() - left]
 }
 
