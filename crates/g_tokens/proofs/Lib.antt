@@ -1,4 +1,5 @@
 pub mod Breaks
+pub mod Examples
 pub mod Fronts
 pub mod Gaps
 pub mod Numerals

@@ -1,0 +1,5 @@
+pub mod Gives
+pub mod Lacks
+pub mod Levels
+pub mod Refusals
+pub mod Results
