@@ -10,7 +10,10 @@ use g_values::Primitive;
 #[derive(Drop)]
 pub enum Tunnel {
     /// `tunnel in -> out`: the same value each time.
-    Tunnel { outer: Wire, inner: Wire },
+    Tunnel {
+        outer: Wire,
+        inner: Wire,
+    },
     /// `register in -> out | in -> out`: a shift register with an initial value.
     Register {
         initial: Wire,
@@ -27,15 +30,30 @@ pub enum Tunnel {
         last: Wire,
     },
     /// `last in -> out`: the value in the last iteration or frame.
-    Last { inner: Wire, outer: Wire },
+    Last {
+        inner: Wire,
+        outer: Wire,
+    },
     /// `gather in -> out`: the values of all iterations, as an array.
-    Gather { inner: Wire, outer: Wire },
+    Gather {
+        inner: Wire,
+        outer: Wire,
+    },
     /// `index in -> out`: one element an iteration.
-    Index { array: Wire, inner: Wire },
+    Index {
+        array: Wire,
+        inner: Wire,
+    },
     /// `result out [default]`: what each branch of a case gives.
-    Result { outer: Wire, default: bool },
+    Result {
+        outer: Wire,
+        default: bool,
+    },
     /// `carry in -> out`: from the frame before.
-    Carry { before: Wire, inner: Wire },
+    Carry {
+        before: Wire,
+        inner: Wire,
+    },
     /// `ref in -> out | in -> out out`: the value of a reference, its new value, and outside the
     /// reference and a code.
     Ref {
@@ -115,7 +133,11 @@ pub struct SequenceFrame {
 #[derive(Drop)]
 pub enum Node {
     /// `const type literal -> out`
-    Const { ty: Ty, literal: Lit, out: Wire },
+    Const {
+        ty: Ty,
+        literal: Lit,
+        out: Wire,
+    },
     /// `OP {in} [-> out {out}]`, an operation that computes its outputs from its inputs.
     Apply {
         primitive: Primitive,
@@ -137,9 +159,15 @@ pub enum Node {
         out: Wire,
     },
     /// `read NAME -> out`: a local variable.
-    Read { object: Name, out: Wire },
+    Read {
+        object: Name,
+        out: Wire,
+    },
     /// `write NAME in`
-    Write { object: Name, input: Wire },
+    Write {
+        object: Name,
+        input: Wire,
+    },
     /// `call NAME {in} [-> out {out}]`
     Call {
         vi: Name,
@@ -167,7 +195,12 @@ pub enum Node {
         branches: List<Branch>,
     },
     /// `sequence`
-    Sequence { frames: List<SequenceFrame> },
+    Sequence {
+        frames: List<SequenceFrame>,
+    },
     /// `inplace`
-    InPlace { lines: List<Tunnel>, body: Diagram },
+    InPlace {
+        lines: List<Tunnel>,
+        body: Diagram,
+    },
 }

@@ -30,5 +30,9 @@ pub enum PanelItem {
         out: Wire,
     },
     /// `indicator NAME type <- in`
-    Indicator { name: Name, ty: Ty, input: Wire },
+    Indicator {
+        name: Name,
+        ty: Ty,
+        input: Wire,
+    },
 }
