@@ -70,8 +70,8 @@ impl Page {
     pub fn count(&mut self, n: u8) -> Result<(), AllocError>
         ensures { (rest : List ℕ) → OnOk result (self.new ++ rest ≡ self.old ++ (decimal n ++ rest)) }
     {
-        let text = n.to_string(self.alloc)?;
-        self.push(text.as_bytes())
+        let digits = n.to_string(self.alloc)?;
+        self.push(digits.as_bytes())
     }
 
     /// Writes a space and a type.
