@@ -2,9 +2,11 @@
 #![tactic(auto)]
 
 mod lists;
+mod names;
 mod rep;
 mod ty;
 
 pub use lists::{Bytes, CallList, Name};
+pub use names::{LONGEST_NAME, is_name};
 pub use rep::{Rep, wider, wrap};
 pub use ty::{Ty, TyList, assignable, copy, copy_all, fits, same, type_text};

@@ -1,0 +1,5 @@
+pub mod LiveBorders
+pub mod LiveListing
+pub mod LiveLiterals
+pub mod LiveNodes
+pub mod LiveTypes
