@@ -1,0 +1,7 @@
+pub mod Lexing
+pub mod NumberPieces
+pub mod TextPieces
+pub mod Parts
+pub mod Tables
+pub mod TypeParts
+pub mod LiteralParts
