@@ -5,3 +5,4 @@ pub mod Parts
 pub mod Tables
 pub mod TypeParts
 pub mod LiteralParts
+pub mod BorderParts

@@ -91,6 +91,10 @@ binds_on {A} {B} {M} {Q} {R} {g} {f} {before} {r} {s} front one next = record { 
   let u = one.goes ts h.0 h.1 h.2 good w.written w.stands in
   record { written = u.written; stands = u.stands; is = ap front u.is ∙ w.is } }
 
+-- the same in other words
+pub alike : {A : Type 0} {Q : A → State} {R : State} {g : Grammar Token A} {r s : A → List ℕ → List ℕ} → Says Q R g r → ((a : A) (bytes : List ℕ) → r a bytes ≡ s a bytes) → Says Q R g s
+alike {A} {Q} {R} {g} {r} {s} x e = record { says = λ ts a rest h good bytes q. subst (λ l. R l ts) (e a bytes) (x.says ts a rest h good bytes q) }
+
 -- what is written before may be any bytes
 pub opens : {B : Type 0} {Q : B → State} {R : State} {g : Grammar Token B} {front : List ℕ → List ℕ} {s : B → List ℕ → List ℕ} → Says Q R g s → Goes Q R g front (λ b bytes. front (s b bytes))
 opens {B} {Q} {R} {g} {front} {s} x = record { goes = λ ts b rest h good bytes q. record { written = s b bytes; stands = x.says ts b rest h good bytes q; is = refl } }
