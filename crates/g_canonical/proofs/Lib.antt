@@ -6,3 +6,6 @@ pub mod Tables
 pub mod TypeParts
 pub mod LiteralParts
 pub mod BorderParts
+pub mod SelectorParts
+pub mod PlainParts
+pub mod NodeParts

@@ -99,6 +99,9 @@ alike {A} {Q} {R} {g} {r} {s} x e = record { says = λ ts a rest h good bytes q.
 pub opens : {B : Type 0} {Q : B → State} {R : State} {g : Grammar Token B} {front : List ℕ → List ℕ} {s : B → List ℕ → List ℕ} → Says Q R g s → Goes Q R g front (λ b bytes. front (s b bytes))
 opens {B} {Q} {R} {g} {front} {s} x = record { goes = λ ts b rest h good bytes q. record { written = s b bytes; stands = x.says ts b rest h good bytes q; is = refl } }
 
+pub in_other_words : {B : Type 0} {Q : B → State} {R : State} {g : Grammar Token B} {front : List ℕ → List ℕ} {r s : B → List ℕ → List ℕ} → Says Q R g r → ((b : B) (bytes : List ℕ) → front (r b bytes) ≡ s b bytes) → Goes Q R g front s
+in_other_words {B} {Q} {R} {g} {front} {r} {s} x e = record { goes = λ ts b rest h good bytes q. record { written = r b bytes; stands = x.says ts b rest h good bytes q; is = e b bytes } }
+
 -- ---- one token
 
 -- what a token of a kind is in front of bytes
