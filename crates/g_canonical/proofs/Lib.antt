@@ -9,3 +9,6 @@ pub mod BorderParts
 pub mod SelectorParts
 pub mod PlainParts
 pub mod NodeParts
+pub mod PanelParts
+pub mod GoodTokens
+pub mod ListingParts
