@@ -18,9 +18,10 @@ use Rattle.g_tokens.specs.declared.texts.Step.{Step}
 use Rattle.g_tokens.specs.declared.texts.Step.TheVariants as step
 use Rattle.g_tokens.specs.Tokens.{is_letter, is_digit, is_word_byte, is_space, begins, is_run, word_of, word, digits_value, minus, digits_of, is_numeral, numeral, number, hex, first_digit, two_digits, in_text, byte_before, closed, after_step, characters, as_text, text, mark_in, mark_texts, or_none, whole, longer_or, longest, front, at_gap, lexemes, line_rest, line_tokens, content, cut, placed, lines, lines_tokens, placed_tokens, tokens_of}
 use Rattle.g_tokens.proofs.Numerals.{next_below, below_twenty, first_all, rest_all}
+use Rattle.g_canonical.specs.Listings.{IsBytes}
 use Rattle.g_canonical.proofs.Lexing.{IsWord, both}
 use Rattle.g_canonical.proofs.NumberPieces.{IsShort}
-use Rattle.g_canonical.proofs.TextPieces.{is_byte, IsBytes}
+use Rattle.g_canonical.proofs.TextPieces.{is_byte}
 use Rattle.g_canonical.proofs.Parts.{IsGood, AreGood, some_is}
 
 abbrev AllGood : Option Token → Type 0

@@ -22,9 +22,9 @@ use Rattle.g_syntax.specs.declared.ClonesWord.TheVariants as clones_word
 use Rattle.g_syntax.specs.Words.{word, name, eol, between, pool_size, version}
 use Rattle.g_syntax.specs.Listing.{Kind, header_word, system_or_eol, system_end, after_clones, kind_rest, vi_rest, vi_word, at_end, vi_or_end, vis, listing, HasHierarchy}
 use Rattle.g_tokens.specs.Tokens.{tokens_of, placed_tokens}
+use Rattle.g_canonical.specs.Listings.{IsBytes, IsListingOf}
 use Rattle.g_canonical.proofs.Lexing.{Full, Inside, IsWord, finish, space}
 use Rattle.g_canonical.proofs.NumberPieces.{number_piece}
-use Rattle.g_canonical.proofs.TextPieces.{IsBytes}
 use Rattle.g_canonical.proofs.Parts.{Rest, IsGood, AreGood, some_is, after, a_word, a_feed, stands_name}
 use Rattle.g_canonical.proofs.BorderParts.{a_line, between_is, one_row}
 use Rattle.g_canonical.proofs.PanelParts.{body, body_text, body_says}
@@ -266,12 +266,13 @@ rewritten ts h has good =
       (a_line 0 (codes "glisting") (record { letter = refl; all = refl; short = omega arith }) (record { bound = refl; inside = space plain }));
     }
 
--- the canonical text of a hierarchy that some listing has is a listing that has it
-pub reads_back : (bytes : List ℕ) (h : Hierarchy) → IsBytes bytes → HasHierarchy (tokens_of (placed_tokens bytes)) h → HasHierarchy (tokens_of (placed_tokens (text.text_of h))) h
+pub reads_back : (bytes : List ℕ) (h : Hierarchy) → IsBytes bytes → IsListingOf h bytes → IsListingOf h (text.text_of h)
 reads_back bytes h b has =
     let r = rewritten (tokens_of (placed_tokens bytes)) h has (tokens_good bytes b) in
     subst (λ (ts : List Token). HasHierarchy ts h) (sym (r.written.lines 1)) r.has
 
--- and no other has that text
-pub alone : (bytes : List ℕ) (h g : Hierarchy) → IsBytes bytes → HasHierarchy (tokens_of (placed_tokens bytes)) h → HasHierarchy (tokens_of (placed_tokens (text.text_of h))) g → g ≡ h
+pub alone : (bytes : List ℕ) (h g : Hierarchy) → IsBytes bytes → IsListingOf h bytes → IsListingOf g (text.text_of h) → g ≡ h
 alone bytes h g b has other = (same listing (tokens_of (placed_tokens (text.text_of h))) g h [] [] other (reads_back bytes h b has)).0
+
+pub differ : (bytes others : List ℕ) (h g : Hierarchy) → IsBytes bytes → IsListingOf h bytes → IsBytes others → IsListingOf g others → text.text_of g ≡ text.text_of h → g ≡ h
+differ bytes others h g b has c other e = alone bytes h g b has (subst (λ (l : List ℕ). IsListingOf g l) e (reads_back others g c other))

@@ -19,9 +19,10 @@ use Rattle.g_syntax.specs.Words.{word_in, word, name, wire, eol, feeds, arrow, b
 use Rattle.g_syntax.specs.Words.{text as text_of_token}
 use Rattle.g_syntax.specs.Nodes.{dots}
 use Rattle.g_syntax.specs.Borders.{item_or_end, wires_to, outputs, operands, last_wire, to_wire, across, turned, through}
+use Rattle.g_canonical.specs.Listings.{IsBytes}
 use Rattle.g_canonical.proofs.Lexing.{Bound, Full, Inside, IsPiece, IsWord, feed, space, word_piece, mark_piece, arrow_piece, feeds_piece, dots_piece, starts}
 use Rattle.g_canonical.proofs.NumberPieces.{IsShort, number_piece}
-use Rattle.g_canonical.proofs.TextPieces.{IsBytes, text_piece}
+use Rattle.g_canonical.proofs.TextPieces.{text_piece}
 
 -- tokens that bytes can have
 abbrev pub IsGood : Token → Type 0

@@ -14,14 +14,11 @@ use Rattle.g_tokens.specs.Tokens.{hex, in_text, first_digit, two_digits, IsFront
 use Rattle.g_tokens.specs.Scan.{End, text_end, until, further}
 use Rattle.g_tokens.proofs.TextEnds.{quoted_front}
 use Rattle.g_diagram.specs.Text.{hex_digit, byte_text, bytes_text, quoted}
+use Rattle.g_canonical.specs.Listings.{IsBytes}
 use Rattle.g_canonical.proofs.Lexing.{Inside, IsPiece, is_inner, both, piece}
 
--- bytes of a text
 abbrev pub is_byte : ℕ → Bool
 is_byte b = nat_lt b 256
-
-abbrev pub IsBytes : List ℕ → Type 0
-IsBytes bytes = list_all is_byte bytes ≡ true
 
 record IsHex (d : ℕ) : Type 0 where
   value : hex (hex_digit d) ≡ Some d
