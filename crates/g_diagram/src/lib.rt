@@ -5,7 +5,9 @@
 mod hierarchy;
 mod node;
 mod panel;
+mod place;
 
 pub use hierarchy::{Clones, Hierarchy, System, Vi};
 pub use node::{Branch, Diagram, Node, Selector, SequenceFrame, SharedOp, Tunnel};
 pub use panel::{Lit, PanelItem, Wire};
+pub use place::{Break, Place};

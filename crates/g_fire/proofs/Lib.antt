@@ -1,0 +1,4 @@
+pub mod MapLemmas
+pub mod Compute
+pub mod Words
+pub mod Rows

@@ -1,0 +1,10 @@
+//! The firing machine: the plain meaning of a hierarchy, by frames, values on wires, and firings one after the other.
+#![tactic(auto)]
+
+mod firing;
+mod maps;
+mod state;
+
+pub use firing::{Firing, FrameNode, Trace};
+pub use maps::{Done, Terminal, Values, WireSource};
+pub use state::{Content, FireState, Fired, Frame};

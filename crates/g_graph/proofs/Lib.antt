@@ -1,0 +1,4 @@
+pub mod Search
+pub mod Shows
+pub mod Falling
+pub mod Telling

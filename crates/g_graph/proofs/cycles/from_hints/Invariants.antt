@@ -1,0 +1,5 @@
+use Rattle.g_graph.specs.Graph.{TellsCycles}
+use Rattle.g_graph.proofs.cycles.from_hints.Given as goal
+
+abbrev pub invariant-loop-node : goal.invariant-loop-node
+invariant-loop-node l = TellsCycles l.graph l.node l.marks.items

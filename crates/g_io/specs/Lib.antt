@@ -1,0 +1,4 @@
+pub mod Causes
+pub mod MadeWith
+pub mod Reading
+pub mod Memory

@@ -1,0 +1,71 @@
+//! The program's own input and output, over std's readers and writers.
+
+ghost use Rattle.std.specs.Prelude.{None};
+
+use crate::sink::Sink;
+use crate::source::{Failed, Source};
+use std::io::{Read, Write};
+
+/// A reader of std, with a count of its errors. It tells nothing of what it has left.
+#[derive(Debug, Drop)]
+pub struct StdinSource<R> {
+    inner: R,
+    faults: u64,
+}
+
+impl<R: Read> StdinSource<R> {
+    pub fn new(inner: R) -> Self {
+        StdinSource { inner, faults: 0 }
+    }
+}
+
+impl<R: Read> Source for StdinSource<R> {
+    ghost left = { λ _. None };
+
+    ghost faults = { λ s. s.faults };
+
+    fn read(&mut self, into: &mut [u8]) -> Result<usize, Failed> {
+        match self.inner.read(into) {
+            Ok(count) => Ok(count),
+            Err(_) => {
+                self.faults = self.faults.saturating_add(1);
+                Err(Failed)
+            }
+        }
+    }
+}
+
+/// A writer of std, with a count of its errors; to take nothing of a piece counts as one. It tells
+/// nothing of what it holds.
+#[derive(Debug, Drop)]
+pub struct StdoutSink<W> {
+    inner: W,
+    faults: u64,
+}
+
+impl<W: Write> StdoutSink<W> {
+    pub fn new(inner: W) -> Self {
+        StdoutSink { inner, faults: 0 }
+    }
+}
+
+impl<W: Write> Sink for StdoutSink<W> {
+    ghost held = { λ _. None };
+
+    ghost faults = { λ s. s.faults };
+
+    ghost made_with = { λ _. None };
+
+    fn write(&mut self, piece: &[u8]) -> Result<usize, Failed> {
+        if piece.is_empty() {
+            return Ok(0);
+        }
+        match self.inner.write(piece) {
+            Ok(count) if count > 0 => Ok(count),
+            _ => {
+                self.faults = self.faults.saturating_add(1);
+                Err(Failed)
+            }
+        }
+    }
+}

@@ -1,0 +1,3 @@
+pub mod Cuts
+pub mod Arguments
+pub mod Stops

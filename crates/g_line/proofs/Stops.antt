@@ -1,0 +1,150 @@
+-- The line that words have, and where words stop being one.
+use Rattle.std.proofs.Common.{◌≡◌, ◌≢◌, ℕ, zero, suc, ◌+◌, ◌-◌, ◌<◌, ◌≤◌, true, false, List, [], ◌∷◌, ◌++◌, length, take, drop, map, Some, refl, sym, ap, ◌∙◌, subst, codes, arith}
+use Rattle.std.specs.Prelude.{slice_get, Result, Ok, Err, IfErr, IsErrAnd}
+use Rattle.std.specs.List.{flat_map}
+use Rattle.std.proofs.lemmas.List.{append-nil, take_all, take-append-drop}
+use Rattle.g_types.specs.Names.{is_word}
+use Rattle.g_line.specs.declared.forms.Setting.{Setting}
+use Rattle.g_line.specs.declared.forms.Line.{Line}
+use Rattle.g_line.specs.declared.forms.Line.TheVariants.{Run}
+use Rattle.g_line.specs.Forms.{Word, setting_word, Sets, argument_words, settings_of, HasLine}
+use Rattle.g_line.specs.declared.forms.LineRefused.{LineRefused}
+use Rattle.g_line.specs.declared.forms.LineRefused.TheVariants.{Usage, Memory}
+use Rattle.g_line.specs.Usage.{BeginsLine, IsOnlyLine, IsFirstWrong, IsRefusal}
+use Rattle.g_line.specs.Reading.{OnUsage, AreSettings, IsFirstOther, IsMain}
+use Rattle.g_line.proofs.Arguments.{settings_of-map, setting_at, same_arguments}
+
+-- what a line begins with
+first_word : (words : List Word) (line : Line) → HasLine words line → slice_get words 0 ≡ Some (codes "run")
+first_word words (Run main settings) h = ap (λ w. slice_get w 0) h.1.written
+
+second_word : (words : List Word) (line : Line) → HasLine words line → (main : Word) × (slice_get words 1 ≡ Some main) × (is_word main ≡ true)
+second_word words (Run main settings) h = (main, ap (λ w. slice_get w 1) h.1.written, h.1.main_is_name)
+
+later_word : (words : List Word) (line : Line) (i : ℕ) (w : Word) → HasLine words line → slice_get words (suc (suc i)) ≡ Some w → (s : Setting) × (is_word s.name ≡ true) × (w ≡ setting_word s)
+later_word words (Run main settings) i w h e = setting_at h.0 h.1.right i w (sym (ap (λ w. slice_get w (suc (suc i))) h.1.written) ∙ e)
+
+-- what begins a line
+begins_nothing : BeginsLine []
+begins_nothing = (codes "run" ∷ codes "a" ∷ [], Run (codes "a") [], ([], record { written = refl; main_is_name = refl; right = tt; given = refl }))
+
+begins_command : BeginsLine (codes "run" ∷ [])
+begins_command = (codes "a" ∷ [], Run (codes "a") [], ([], record { written = refl; main_is_name = refl; right = tt; given = refl }))
+
+-- words that have a line begin one
+whole : (words : List Word) (k : ℕ) (line : Line) → HasLine words line → BeginsLine (take k words)
+whole words k line h = (drop k words, line, subst (λ w. HasLine w line) (sym (take-append-drop k words)) h)
+
+-- the k-th word is the first that no line has there
+stops_at : (words : List Word) (k : ℕ) → 1 ≤ k → k ≤ length words → BeginsLine (take (k - 1) words) → (BeginsLine (take k words) → ⊥) → IsFirstWrong words k
+stops_at words k some within before never = record {
+  first = some;
+  last = omega arith;
+  no_line = λ line h. never (whole words k line h);
+  before = before;
+  here = λ _. never;
+}
+
+pub stops_first : (words : List Word) → ((w : Word) → slice_get words 0 ≡ Some w → w ≢ codes "run") → IsFirstWrong words 1
+stops_first [] other = record {
+  first = omega arith;
+  last = omega arith;
+  no_line = λ line h. let e = first_word [] line h in absurd cc;
+  before = begins_nothing;
+  here = λ few b. omega arith;
+}
+stops_first (w ∷ words) other =
+    stops_at (w ∷ words) 1 (omega arith) (omega arith) begins_nothing (λ b. let e = first_word (w ∷ b.0) b.1 b.2 in other w refl cc)
+
+pub stops_second : (words : List Word) → slice_get words 0 ≡ Some (codes "run") → ((w : Word) → slice_get words 1 ≡ Some w → is_word w ≡ false) → IsFirstWrong words 2
+stops_second [] run other = absurd cc
+stops_second (a ∷ []) run other =
+    let command : codes "run" ≡ a = cc in
+    record {
+      first = omega arith;
+      last = omega arith;
+      no_line = λ line h. let e = (second_word (a ∷ []) line h).1 in absurd cc;
+      before = subst (λ w. BeginsLine (w ∷ [])) command begins_command;
+      here = λ few b. omega arith;
+    }
+stops_second (a ∷ b ∷ words) run other =
+    let command : codes "run" ≡ a = cc in
+    stops_at (a ∷ b ∷ words) 2 (omega arith) (omega arith) (subst (λ w. BeginsLine (w ∷ [])) command begins_command)
+    (λ begins. let m = second_word (a ∷ b ∷ begins.0) begins.1 begins.2 in
+    let same : b ≡ m.0 = let e = m.1 in cc in
+    let name = m.2 in
+    let none = other b refl in
+    let is : is_word b ≡ true = ap is_word same ∙ name in
+    absurd cc)
+
+-- a place of the front of a list
+slice_get-front : (words more : List Word) (at : ℕ) (w : Word) → slice_get words at ≡ Some w → slice_get (take (at + 1) words ++ more) at ≡ Some w
+slice_get-front [] more at w e = absurd cc
+slice_get-front (x ∷ words) more zero w e = e
+slice_get-front (x ∷ words) more (suc at) w e =
+    let one : suc at + 1 ≡ suc (at + 1) = omega arith in
+    ap (λ n. slice_get (take n (x ∷ words) ++ more) (suc at)) one ∙ slice_get-front words more at w e
+
+some_at : (words : List Word) (at : ℕ) → at < length words → (w : Word) × (slice_get words at ≡ Some w)
+some_at [] at lt = absurd (omega arith)
+some_at (x ∷ words) zero lt = (x, refl)
+some_at (x ∷ words) (suc at) lt = some_at words at (omega arith)
+
+line_of_settings : (words : List Word) (main : Word) (settings : List Setting) → slice_get words 0 ≡ Some (codes "run") → IsMain words main → (n : ℕ) → AreSettings words 2 n settings → HasLine (take n words) (Run main settings)
+line_of_settings [] main settings run m n s = absurd cc
+line_of_settings (a ∷ []) main settings run m n s = let e = m.second in absurd cc
+line_of_settings (a ∷ b ∷ words) main settings run m n s =
+    let e = m.second in
+    let command : a ≡ codes "run" = cc in
+    let second : b ≡ main = cc in (
+      map Sets settings,
+      record {
+        written = s.written ∙ ap (λ (w : Word). w ∷ b ∷ flat_map argument_words (map Sets settings)) command ∙ ap (λ (w : Word). codes "run" ∷ w ∷ flat_map argument_words (map Sets settings)) second;
+        main_is_name = m.name;
+        right = s.right;
+        given = settings_of-map settings;
+      },
+    )
+
+pub has_line : (words : List Word) (n : ℕ) (main : Word) (settings : List Setting) → slice_get words 0 ≡ Some (codes "run") → IsMain words main → AreSettings words 2 n settings → n ≡ length words → HasLine words (Run main settings)
+has_line words n main settings run m s long = subst (λ w. HasLine w (Run main settings)) (take_all n words (omega arith)) (line_of_settings words main settings run m n s)
+
+pub stops_later : (words : List Word) (k : ℕ) (main : Word) → slice_get words 0 ≡ Some (codes "run") → IsMain words main → IsFirstOther words 2 k → IsFirstWrong words k
+stops_later words k main run m other =
+    let at = other.at in
+    let w = some_at words at other.within in
+    let place : (i : ℕ) × (at ≡ suc (suc i)) = below at other.from in
+    let never : BeginsLine (take (at + 1) words) → ⊥ = (λ (b : BeginsLine (take (at + 1) words)).
+    let front = slice_get-front words b.0 at w.0 w.1 in
+    let s = later_word (take (at + 1) words ++ b.0) b.1 place.0 w.0 b.2 (ap (slice_get (take (at + 1) words ++ b.0)) (sym place.1) ∙ front) in
+    other.other w.0 w.1 s.0 s.1 s.2) in
+    let begins = line_of_settings words main other.settings run m at other.before in
+    let before : BeginsLine (take at words) = ([], Run main other.settings, subst (λ l. HasLine l (Run main other.settings)) (sym (append-nil (take at words))) begins) in
+    let is : at + 1 ≡ k = sym other.is in
+    let less : at ≡ at + 1 - 1 = omega arith in
+    subst (IsFirstWrong words) is (stops_at words (at + 1) (omega arith) (omega (arith, other.within)) (subst (λ n. BeginsLine (take n words)) less before) never)
+  where
+    below : (at : ℕ) → 2 ≤ at → (i : ℕ) × (at ≡ suc (suc i))
+    below zero le = absurd (omega arith)
+    below (suc zero) le = absurd (omega arith)
+    below (suc (suc i)) le = (i, refl)
+
+pub only_line : (words : List Word) (line : Line) → HasLine words line → IsOnlyLine words line
+only_line words (Run main settings) h (Run main' settings') h' =
+    let e = sym h'.1.written ∙ h.1.written in
+    let mains : main' ≡ main = cc in
+    let texts : flat_map argument_words h'.0 ≡ flat_map argument_words h.0 = cc in
+    let arguments = same_arguments h'.0 h.0 h'.1.right h.1.right texts in
+    let given = ap settings_of arguments in
+    let a = h.1.given in
+    let b = h'.1.given in
+    cc
+
+-- a refusal at a word
+pub refusal_at : (P : ℕ → Type 0) (words : List Word) (e : LineRefused) → ((k : ℕ) → P k → IsFirstWrong words k) → OnUsage P e → IsRefusal words e
+refusal_at P words (Usage k) why p = why k p
+refusal_at P words (Memory e) why p = tt
+
+pub if_err : {A E : Type 0} (P : E → Type 0) (r : Result A E) (e : E) → IsErrAnd r (λ x. x ≡ e) → P e → IfErr r P
+if_err P (Ok v) e same p = tt
+if_err P (Err x) e same p = subst P (sym same) p

@@ -1,0 +1,58 @@
+-- The forms of a command line: a command, what belongs to it, and arguments in any order.
+use Rattle.std.specs.Prelude.{◌≡◌, ℕ, true, List, [], ◌∷◌, ◌++◌, codes, refl}
+use Rattle.std.specs.List.{AllByRecursion, flat_map}
+use Rattle.g_types.specs.Names.{is_word}
+use Rattle.g_line.specs.declared.forms.Setting.{Setting}
+use Rattle.g_line.specs.declared.forms.Line.{Line}
+use Rattle.g_line.specs.declared.forms.Line.TheVariants.{Run}
+
+-- a word, by its bytes
+abbrev pub Word : Type 0
+Word = List ℕ
+
+-- NAME=VALUE; a name holds no `=`, so the first one ends it
+abbrev pub setting_word : Setting → Word
+setting_word s = s.name ++ (61 ∷ s.text)
+
+-- what may follow a command, in any order
+pub data Argument : Type 0 where
+  Sets : Setting → Argument
+
+-- the words that an argument is written by
+abbrev pub argument_words : Argument → List Word
+argument_words (Sets s) = setting_word s ∷ []
+
+abbrev pub IsArgument : Argument → Type 0
+IsArgument (Sets s) = is_word s.name ≡ true
+
+-- the settings among arguments, in their order
+abbrev pub settings_of : List Argument → List Setting
+settings_of [] = []
+settings_of (Sets s ∷ more) = s ∷ settings_of more
+
+-- `run MAIN` and arguments
+pub record IsRun (words : List Word) (main : Word) (settings : List Setting) (arguments : List Argument) : Type 0 where
+  pub written : words ≡ codes "run" ∷ main ∷ flat_map argument_words arguments
+  pub main_is_name : is_word main ≡ true
+  pub right : AllByRecursion IsArgument arguments
+  pub given : settings ≡ settings_of arguments
+
+-- the words are written so, by one case a command
+abbrev pub HasLine : List Word → Line → Type 0
+HasLine words (Run main settings) = (arguments : List Argument) × IsRun words main settings arguments
+
+-- examples: `run Main a=1 b==` has the settings 1 and `=`
+two : List Setting
+two = record { name = codes "a"; text = codes "1" } ∷ record { name = codes "b"; text = codes "=" } ∷ []
+
+runs_main : HasLine (codes "run" ∷ codes "Main" ∷ codes "a=1" ∷ codes "b==" ∷ []) (Run (codes "Main") two)
+unfolding two
+runs_main = (
+  Sets (record { name = codes "a"; text = codes "1" }) ∷ Sets (record { name = codes "b"; text = codes "=" }) ∷ [],
+  record {
+    written = refl;
+    main_is_name = refl;
+    right = (refl, (refl, tt));
+    given = refl;
+  },
+)

@@ -1,0 +1,116 @@
+-- Arithmetic of numbers and of arrays of numbers. What has no row gives FALSE, here and below.
+use Rattle.std.specs.Prelude.{ℤ, zero, suc, pos, negsuc, ◌+ℤ◌, ◌-ℤ◌, ◌*ℤ◌, neg_ℤ, false, List, [], ◌∷◌, map, cond, int_lt}
+use Rattle.std.specs.Int.{int_div_euclid}
+use Rattle.std.specs.Simd.Lanes.{zip2}
+use Rattle.g_types.specs.declared.rep.Rep.{Rep}
+use Rattle.g_types.specs.Rep.{wrap, wider}
+use Rattle.g_values.specs.Number.{num_of}
+use Rattle.g_values.specs.Numbers.{Numbers}
+use Rattle.g_values.specs.Coerce.{coerced_numbers}
+use Rattle.g_values.specs.declared.value.Value.{Value, out-Value}
+use Rattle.g_values.specs.declared.value.Value.TheVariants as value
+use Rattle.g_values.specs.declared.value.Value.TheOpen.{Value-F}
+
+abbrev pub nothing : Value
+nothing = value.Bool false
+
+abbrev pub numbers : Rep → List ℤ → Value
+numbers r all = let xs : Numbers = record { rep = r; all = all } in value.Nums xs
+
+abbrev pub number : Rep → ℤ → Value
+number r n = value.Num (num_of r n)
+
+-- Two operands, in the wider representation and wrapped: arrays element by element to the smaller
+-- size, a number with each element of an array.
+
+abbrev pub combined : (ℤ → ℤ → ℤ) → Rep → ℤ → ℤ → ℤ
+combined f r x y = wrap r (f x y)
+
+abbrev pub arithmetic_at : (ℤ → ℤ → ℤ) → Value-F Value → Value-F Value → Value
+arithmetic_at f (Value-F.Num x) (Value-F.Num y) = number (wider x.rep y.rep) (f x.n y.n)
+arithmetic_at f (Value-F.Num x) (Value-F.Nums ys) = let r = wider x.rep ys.rep in numbers r (map (combined f r x.n) ys.all)
+arithmetic_at f (Value-F.Nums xs) (Value-F.Num y) = let r = wider xs.rep y.rep in numbers r (map (λ x. combined f r x y.n) xs.all)
+arithmetic_at f (Value-F.Nums xs) (Value-F.Nums ys) = let r = wider xs.rep ys.rep in numbers r (zip2 (combined f r) xs.all ys.all)
+arithmetic_at f _ _ = nothing
+
+abbrev pub arithmetic : (ℤ → ℤ → ℤ) → Value → Value → Value
+arithmetic f x y = arithmetic_at f (out-Value x) (out-Value y)
+
+abbrev pub plus : ℤ → ℤ → ℤ
+plus x y = x +ℤ y
+
+abbrev pub minus : ℤ → ℤ → ℤ
+minus x y = x -ℤ y
+
+abbrev pub times : ℤ → ℤ → ℤ
+times x y = x *ℤ y
+
+-- one operand, wrapped
+
+abbrev pub each_at : (ℤ → ℤ) → Value-F Value → Value
+each_at f (Value-F.Num x) = number x.rep (f x.n)
+each_at f (Value-F.Nums xs) = numbers xs.rep (map (λ x. wrap xs.rep (f x)) xs.all)
+each_at f _ = nothing
+
+abbrev pub each : (ℤ → ℤ) → Value → Value
+each f x = each_at f (out-Value x)
+
+abbrev pub increased : ℤ → ℤ
+increased x = x +ℤ pos 1
+
+abbrev pub decreased : ℤ → ℤ
+decreased x = x -ℤ pos 1
+
+abbrev pub absolute : ℤ → ℤ
+absolute x = cond (int_lt x (pos 0)) (neg_ℤ x) x
+
+-- numbers wrapped into another representation
+
+abbrev pub converted_at : Rep → Value-F Value → Value
+converted_at r (Value-F.Num x) = number r x.n
+converted_at r (Value-F.Nums xs) = value.Nums (coerced_numbers r xs)
+converted_at r _ = nothing
+
+abbrev pub converted : Rep → Value → Value
+converted r x = converted_at r (out-Value x)
+
+-- the floor of x / y, and 0 where y is 0
+abbrev pub quotient : ℤ → ℤ → ℤ
+quotient x (pos zero) = pos 0
+quotient x (pos (suc y)) = int_div_euclid x (pos (suc y))
+quotient x (negsuc y) = int_div_euclid (neg_ℤ x) (pos (suc y))
+
+abbrev pub remainder : ℤ → ℤ → ℤ
+remainder x y = x -ℤ (y *ℤ quotient x y)
+
+abbrev pub greater : ℤ → ℤ → ℤ
+greater x y = cond (int_lt x y) y x
+
+abbrev pub lesser : ℤ → ℤ → ℤ
+lesser x y = cond (int_lt x y) x y
+
+-- two results for two numbers, which are coerced to the wider representation first
+
+abbrev pub pair_at : (ℤ → ℤ → ℤ) → (ℤ → ℤ → ℤ) → Value-F Value → Value-F Value → List Value
+pair_at f g (Value-F.Num x) (Value-F.Num y) = let r = wider x.rep y.rep in number r (f (wrap r x.n) (wrap r y.n)) ∷ number r (g (wrap r x.n) (wrap r y.n)) ∷ []
+pair_at f g _ _ = []
+
+abbrev pub pair : (ℤ → ℤ → ℤ) → (ℤ → ℤ → ℤ) → Value → Value → List Value
+pair f g x y = pair_at f g (out-Value x) (out-Value y)
+
+-- the sum and the product of an array's numbers, wrapped
+
+abbrev pub total : List ℤ → ℤ
+total [] = pos 0
+total (x ∷ xs) = x +ℤ total xs
+
+abbrev pub multiplied : List ℤ → ℤ
+multiplied [] = pos 1
+multiplied (x ∷ xs) = x *ℤ multiplied xs
+
+abbrev pub folded_at : (List ℤ → ℤ) → Value-F Value → Value
+folded_at f (Value-F.Nums xs) = number xs.rep (f xs.all)
+folded_at f _ = nothing
+
+abbrev pub folded : (List ℤ → ℤ) → Value → Value
+folded f a = folded_at f (out-Value a)

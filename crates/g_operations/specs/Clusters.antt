@@ -1,0 +1,28 @@
+-- Operations on clusters.
+use Rattle.std.specs.Prelude.{ℕ, List, [], set, Option, Some, None, slice_get}
+use Rattle.g_values.specs.Coerce.{coerced}
+use Rattle.g_values.specs.Value.{type_of}
+use Rattle.g_values.specs.declared.value.Value.{Value, out-Value}
+use Rattle.g_values.specs.declared.value.Value.TheVariants as value
+use Rattle.g_values.specs.declared.value.Value.TheOpen.{Value-F}
+use Rattle.g_operations.specs.Arithmetic.{nothing}
+
+abbrev pub parts_at : Value-F Value → List Value
+parts_at (Value-F.Cluster vs) = vs
+parts_at _ = []
+
+-- the elements of a cluster
+abbrev pub parts : Value → List Value
+parts c = parts_at (out-Value c)
+
+abbrev pub or_nothing : Option Value → Value
+or_nothing None = nothing
+or_nothing (Some v) = v
+
+-- element k, from 0
+abbrev pub get : ℕ → Value → Value
+get k c = or_nothing (slice_get (parts c) k)
+
+-- another element k, coerced to the type of the one that was there
+abbrev pub put : ℕ → Value → Value → Value
+put k c e = value.Cluster (set (parts c) k (coerced e (type_of (get k c))))

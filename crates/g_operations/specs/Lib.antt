@@ -1,0 +1,11 @@
+pub mod Row
+pub mod Kinds
+pub mod Rows
+pub mod Arithmetic
+pub mod Bits
+pub mod Comparisons
+pub mod Arrays
+pub mod Strings
+pub mod Clusters
+pub mod Takes
+pub mod Values

@@ -1,0 +1,10 @@
+//! The operands of a VI's lines as one list of ports, each with its place, its diagram and its name,
+//! borrowed from the hierarchy.
+#![tactic(auto)]
+
+mod border;
+mod operand;
+mod port;
+
+pub use operand::{Operand, Side};
+pub use port::Port;

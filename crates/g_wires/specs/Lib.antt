@@ -1,0 +1,4 @@
+pub mod Wiring
+pub mod Breaks
+pub mod Coding
+pub mod Marks
