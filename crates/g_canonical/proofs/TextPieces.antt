@@ -13,7 +13,8 @@ use Rattle.g_tokens.specs.declared.texts.Escape.TheVariants as escape
 use Rattle.g_tokens.specs.Tokens.{hex, in_text, first_digit, two_digits, IsFront}
 use Rattle.g_tokens.specs.Scan.{End, text_end, until, further}
 use Rattle.g_tokens.proofs.TextEnds.{quoted_front}
-use Rattle.g_diagram.specs.Text.{hex_digit, byte_text, bytes_text, quoted}
+use Rattle.g_values.specs.Text.{hex_digit, byte_text, bytes_text}
+use Rattle.g_diagram.specs.Text.{quoted}
 use Rattle.g_canonical.specs.Listings.{IsBytes}
 use Rattle.g_canonical.proofs.Lexing.{Inside, IsPiece, is_inner, both, piece}
 
@@ -86,36 +87,27 @@ written b h = go ((b == 34) || (b == 92)) refl (nat_lt 31 b && nat_lt b 127) ref
     go false e true f = rw (e, f) (plain b e f)
     go false e false f = rw (e, f) (escaped b (lt b h))
 
--- the characters of a text
-abbrev characters : List ℕ → List ℕ
-characters v = bytes_text v []
-
-split : (v rest : List ℕ) → bytes_text v rest ≡ characters v ++ rest
-split [] rest = refl
-split (b ∷ v) rest = ap (λ l. byte_text b ++ l) (split v rest) ∙ sym (append_assoc (byte_text b) (characters v) rest)
-
-inner_of : (v : List ℕ) → IsBytes v → list_all is_inner (characters v) ≡ true
+inner_of : (v : List ℕ) → IsBytes v → list_all is_inner (bytes_text v) ≡ true
 inner_of [] h = refl
 inner_of (b ∷ v) h =
     let q = and_parts (is_byte b) (list_all is_byte v) h in
-    list_all-append is_inner (byte_text b) (characters v) ∙ both (list_all is_inner (byte_text b)) (list_all is_inner (characters v)) (written b q.0).inner (inner_of v q.1)
+    list_all-append is_inner (byte_text b) (bytes_text v) ∙ both (list_all is_inner (byte_text b)) (list_all is_inner (bytes_text v)) (written b q.0).inner (inner_of v q.1)
 
-ends : (v rest : List ℕ) → IsBytes v → text_end escape.Plain (characters v ++ 34 ∷ rest) ≡ Some (v, length (characters v) + 1)
+ends : (v rest : List ℕ) → IsBytes v → text_end escape.Plain (bytes_text v ++ 34 ∷ rest) ≡ Some (v, length (bytes_text v) + 1)
 unfolding text_end
 ends [] rest h = refl
 ends (b ∷ v) rest h =
     let q = and_parts (is_byte b) (list_all is_byte v) h in
-    let n : length (byte_text b) + (length (characters v) + 1) ≡ length (byte_text b ++ characters v) + 1 = omega (arith, length-append (byte_text b) (characters v)) in
-    ap (text_end escape.Plain) (append_assoc (byte_text b) (characters v) (34 ∷ rest))
-    ∙ (written b q.0).ends (characters v ++ 34 ∷ rest) v (length (characters v) + 1) (ends v rest q.1)
+    let n : length (byte_text b) + (length (bytes_text v) + 1) ≡ length (byte_text b ++ bytes_text v) + 1 = omega (arith, length-append (byte_text b) (bytes_text v)) in
+    ap (text_end escape.Plain) (append_assoc (byte_text b) (bytes_text v) (34 ∷ rest))
+    ∙ (written b q.0).ends (bytes_text v ++ 34 ∷ rest) v (length (bytes_text v) + 1) (ends v rest q.1)
     ∙ ap (λ (k : ℕ). Some (b ∷ v, k)) n
 
 pub text_piece : (v : List ℕ) {bytes : List ℕ} {ts : List Token} → IsBytes v → Inside bytes ts → Inside (quoted v bytes) (token.Text v ∷ ts)
 text_piece v {bytes} {ts} h i =
-    let w : List ℕ = characters v ++ 34 ∷ [] in
-    let long : length (34 ∷ w) ≡ (length (characters v) + 1) + 1 = omega (arith, length-append (characters v) (34 ∷ [])) in
-    let f : IsFront (34 ∷ (characters v ++ 34 ∷ i.line)) (token.Text v) ((length (characters v) + 1) + 1) = quoted_front (characters v ++ 34 ∷ i.line) v (length (characters v) + 1) (sym (ends v i.line h)) in
-    let g : IsFront ((34 ∷ w) ++ i.line) (token.Text v) ((length (characters v) + 1) + 1) = subst (λ l. IsFront (34 ∷ l) (token.Text v) ((length (characters v) + 1) + 1)) (sym (append_assoc (characters v) (34 ∷ []) i.line)) f in
-    let inner : list_all is_inner (34 ∷ w) ≡ true = list_all-append is_inner (characters v) (34 ∷ []) ∙ both (list_all is_inner (characters v)) true (inner_of v h) refl in
-    let whole : Inside ((34 ∷ w) ++ bytes) (token.Text v ∷ ts) = piece 34 w (token.Text v) (record { space = refl; comment = refl; inner = inner }) i (subst (λ n. IsFront ((34 ∷ w) ++ i.line) (token.Text v) n) (sym long) g) in
-    subst (λ l. Inside (34 ∷ l) (token.Text v ∷ ts)) (append_assoc (characters v) (34 ∷ []) bytes ∙ sym (split v (34 ∷ bytes))) whole
+    let w : List ℕ = bytes_text v ++ 34 ∷ [] in
+    let long : length (34 ∷ w) ≡ (length (bytes_text v) + 1) + 1 = omega (arith, length-append (bytes_text v) (34 ∷ [])) in
+    let f : IsFront (34 ∷ (bytes_text v ++ 34 ∷ i.line)) (token.Text v) ((length (bytes_text v) + 1) + 1) = quoted_front (bytes_text v ++ 34 ∷ i.line) v (length (bytes_text v) + 1) (sym (ends v i.line h)) in
+    let g : IsFront ((34 ∷ w) ++ i.line) (token.Text v) ((length (bytes_text v) + 1) + 1) = subst (λ l. IsFront (34 ∷ l) (token.Text v) ((length (bytes_text v) + 1) + 1)) (sym (append_assoc (bytes_text v) (34 ∷ []) i.line)) f in
+    let inner : list_all is_inner (34 ∷ w) ≡ true = list_all-append is_inner (bytes_text v) (34 ∷ []) ∙ both (list_all is_inner (bytes_text v)) true (inner_of v h) refl in
+    piece 34 w (token.Text v) (record { space = refl; comment = refl; inner = inner }) i (subst (λ n. IsFront ((34 ∷ w) ++ i.line) (token.Text v) n) (sym long) g)

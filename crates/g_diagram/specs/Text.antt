@@ -4,6 +4,7 @@
 use Rattle.std.specs.Prelude.{ℕ, zero, suc, ◌+◌, ◌/◌, ◌%◌, nat_lt, ◌==◌, Bool, true, false, ◌&&◌, ◌||◌, if◌then◌else◌, List, [], ◌∷◌, ◌++◌, map, Option, Some, None, ℤ, codes}
 use Rattle.std.specs.Fmt.{signed_decimal, decimal}
 use Rattle.g_types.specs.Ty as types
+use Rattle.g_values.specs.Text as values
 use Rattle.g_types.specs.declared.ty.Ty.{Ty}
 use Rattle.g_diagram.specs.declared.panel.Lit.{Lit}
 use Rattle.g_diagram.specs.declared.panel.Lit.TheOpen.{Lit-F}
@@ -77,25 +78,8 @@ bare_line depth head rest = indent depth (head ++ (10 ∷ rest))
 
 -- ---- texts and literals
 
-abbrev pub hex_digit : ℕ → ℕ
-hex_digit d = if nat_lt d 10 then 48 + d else 55 + d
-
--- a byte inside a text: `"` and `\` after a `\`, and what isn't printable as `\x` with two digits
-abbrev pub byte_text : ℕ → List ℕ
-byte_text b =
-    if (b == 34) || (b == 92) then 92 ∷ b ∷ []
-    else (if nat_lt 31 b && nat_lt b 127 then b ∷ [] else 92 ∷ 120 ∷ hex_digit (b / 16) ∷ hex_digit (b % 16) ∷ [])
-
-abbrev pub bytes_text : List ℕ → Spelling
-bytes_text [] rest = rest
-bytes_text (b ∷ bs) rest = byte_text b ++ bytes_text bs rest
-
 abbrev pub quoted : List ℕ → Spelling
-quoted text rest = 34 ∷ bytes_text text (34 ∷ rest)
-
-abbrev pub truth_text : Bool → List ℕ
-truth_text true = codes "TRUE"
-truth_text false = codes "FALSE"
+quoted text = fixed (values.quoted text)
 
 abbrev pub after_comma : List Spelling → Spelling
 after_comma [] rest = rest
@@ -107,7 +91,7 @@ listed (s ∷ ss) rest = s (after_comma ss rest)
 
 abbrev pub literal_step : Lit-F Spelling → Spelling
 literal_step (Lit-F.Number n) = fixed (signed_decimal n)
-literal_step (Lit-F.Truth b) = fixed (truth_text b)
+literal_step (Lit-F.Truth b) = fixed (values.truth_text b)
 literal_step (Lit-F.Text text) = quoted text
 literal_step Lit-F.Null = fixed (codes "null")
 literal_step (Lit-F.Array items) = λ rest. 91 ∷ listed items (93 ∷ rest)
@@ -194,7 +178,7 @@ borders (t ∷ ts) depth rest = border t depth (borders ts depth rest)
 abbrev pub selector_text : Selector → Spelling
 selector_text (selector.Number n) rest = signed_decimal n ++ rest
 selector_text (selector.Range low high) rest = signed_decimal low ++ (codes ".." ++ (signed_decimal high ++ rest))
-selector_text (selector.Truth b) rest = truth_text b ++ rest
+selector_text (selector.Truth b) rest = values.truth_text b ++ rest
 selector_text (selector.Text text) rest = quoted text rest
 selector_text selector.Default rest = codes "default" ++ rest
 

@@ -2,13 +2,14 @@
 
 ghost use Rattle.std.specs.Prelude.{◌≡◌, ◌<◌, ◌++◌, ◌∷◌, ℕ, List, OnOk, map};
 ghost use Rattle.g_diagram.specs.Text as spec;
+ghost use Rattle.g_values.specs.Text as values;
 
 use crate::page::Page;
 use g_diagram::{Lit, Selector};
 use std::alloc::AllocError;
 
 fn truth_word(truth: bool) -> &'static [u8]
-    ensures { result.now ≡ spec.truth_text truth }
+    ensures { result.now ≡ values.truth_text truth }
 {
     if truth { b"TRUE" } else { b"FALSE" }
 }
@@ -16,7 +17,7 @@ fn truth_word(truth: bool) -> &'static [u8]
 /// A digit of the hexadecimal system, in upper case.
 fn hex_digit(digit: u8) -> u8
     requires { digit < 16 }
-    ensures { result ≡ spec.hex_digit digit }
+    ensures { result ≡ values.hex_digit digit }
 {
     if digit < 10 {
         b'0' + digit
@@ -26,7 +27,7 @@ fn hex_digit(digit: u8) -> u8
 }
 
 fn write_byte(page: &mut Page, byte: u8) -> Result<(), AllocError>
-    ensures { (rest : List ℕ) → OnOk result (page.new ++ rest ≡ page.old ++ (spec.byte_text byte ++ rest)) }
+    ensures { (rest : List ℕ) → OnOk result (page.new ++ rest ≡ page.old ++ (values.byte_text byte ++ rest)) }
 {
     match byte {
         b'"' => page.push(b"\\\""),
