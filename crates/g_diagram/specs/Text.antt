@@ -1,9 +1,11 @@
 -- The canonical text of a hierarchy. Each spelling takes the bytes that follow it, so that nothing is cut or regrouped: tokens with one
 -- space between them, two spaces before a line for each VI or structure around it, numbers without a needless zero, every wire's name or
 -- `_`, both words of the `vi` line.
-use Rattle.std.specs.Prelude.{ℕ, zero, suc, ◌+◌, ◌/◌, ◌%◌, nat_lt, ◌==◌, Bool, true, false, ◌&&◌, ◌||◌, if◌then◌else◌, List, [], ◌∷◌, ◌++◌, map, Option, Some, None, codes}
+use Rattle.std.specs.Prelude.{ℕ, zero, suc, ◌+◌, ◌/◌, ◌%◌, nat_lt, ◌==◌, Bool, true, false, ◌&&◌, ◌||◌, if◌then◌else◌, List, [], ◌∷◌, ◌++◌, map, Option, Some, None, ℤ, codes}
 use Rattle.std.specs.Fmt.{signed_decimal, decimal}
 use Rattle.g_types.specs.Ty as types
+use Rattle.g_values.specs.Text as values
+use Rattle.g_types.specs.declared.ty.Ty.{Ty}
 use Rattle.g_diagram.specs.declared.panel.Lit.{Lit}
 use Rattle.g_diagram.specs.declared.panel.Lit.TheOpen.{Lit-F}
 use Rattle.g_diagram.specs.declared.panel.Lit.TheFolds.{fold-Lit}
@@ -13,9 +15,12 @@ use Rattle.g_diagram.specs.declared.node.Selector.{Selector}
 use Rattle.g_diagram.specs.declared.node.Selector.TheVariants as selector
 use Rattle.g_diagram.specs.declared.node.Tunnel.{Tunnel}
 use Rattle.g_diagram.specs.declared.node.Tunnel.TheVariants as line
+use Rattle.g_diagram.specs.declared.node.Branch.{Branch}
+use Rattle.g_diagram.specs.declared.node.SequenceFrame.{SequenceFrame}
+use Rattle.g_diagram.specs.declared.node.Diagram.{Diagram}
 use Rattle.g_diagram.specs.declared.node.Node.{Node}
 use Rattle.g_diagram.specs.declared.node.Node.TheOpen.{Node-F, Branch-F, Diagram-F, SequenceFrame-F}
-use Rattle.g_diagram.specs.declared.node.Node.TheFolds.{fold-Node}
+use Rattle.g_diagram.specs.declared.node.Node.TheFolds.{fold-Node, fold-Diagram, fold-Branch, fold-SequenceFrame}
 use Rattle.g_diagram.specs.declared.hierarchy.Vi.{Vi}
 use Rattle.g_diagram.specs.declared.hierarchy.Hierarchy.{Hierarchy}
 use Rattle.g_diagram.specs.Words.{primitive_text, shared_text, clones_text, system_text}
@@ -52,10 +57,13 @@ abbrev pub wires : List Wire → Spelling
 wires [] rest = rest
 wires (w ∷ ws) rest = wire w (wires ws rest)
 
+abbrev pub arrow : Spelling
+arrow rest = word (codes "->") rest
+
 -- where there are outputs, an arrow and them
 abbrev pub outputs : List Wire → Spelling
 outputs [] rest = rest
-outputs (w ∷ ws) rest = word (codes "->") (wire w (wires ws rest))
+outputs (w ∷ ws) rest = arrow (wire w (wires ws rest))
 
 abbrev pub indent : (depth : ℕ) → Spelling
 indent zero rest = rest
@@ -70,25 +78,8 @@ bare_line depth head rest = indent depth (head ++ (10 ∷ rest))
 
 -- ---- texts and literals
 
-abbrev pub hex_digit : ℕ → ℕ
-hex_digit d = if nat_lt d 10 then 48 + d else 55 + d
-
--- a byte inside a text: `"` and `\` after a `\`, and what isn't printable as `\x` with two digits
-abbrev pub byte_text : ℕ → List ℕ
-byte_text b =
-    if (b == 34) || (b == 92) then 92 ∷ b ∷ []
-    else (if nat_lt 31 b && nat_lt b 127 then b ∷ [] else 92 ∷ 120 ∷ hex_digit (b / 16) ∷ hex_digit (b % 16) ∷ [])
-
-abbrev pub bytes_text : List ℕ → Spelling
-bytes_text [] rest = rest
-bytes_text (b ∷ bs) rest = byte_text b ++ bytes_text bs rest
-
 abbrev pub quoted : List ℕ → Spelling
-quoted text rest = 34 ∷ bytes_text text (34 ∷ rest)
-
-abbrev pub truth_text : Bool → List ℕ
-truth_text true = codes "TRUE"
-truth_text false = codes "FALSE"
+quoted text = fixed (values.quoted text)
 
 abbrev pub after_comma : List Spelling → Spelling
 after_comma [] rest = rest
@@ -100,7 +91,7 @@ listed (s ∷ ss) rest = s (after_comma ss rest)
 
 abbrev pub literal_step : Lit-F Spelling → Spelling
 literal_step (Lit-F.Number n) = fixed (signed_decimal n)
-literal_step (Lit-F.Truth b) = fixed (truth_text b)
+literal_step (Lit-F.Truth b) = fixed (values.truth_text b)
 literal_step (Lit-F.Text text) = quoted text
 literal_step Lit-F.Null = fixed (codes "null")
 literal_step (Lit-F.Array items) = λ rest. 91 ∷ listed items (93 ∷ rest)
@@ -119,19 +110,22 @@ abbrev pub default_text : Option Lit → Spelling
 default_text None rest = rest
 default_text (Some l) rest = 32 ∷ 61 ∷ 32 ∷ literal l rest
 
+abbrev pub item_word : PanelItem → List ℕ
+item_word (Control name t required default out) = codes "control"
+item_word (Indicator name t input) = codes "indicator"
+
+abbrev pub item_parts : PanelItem → Spelling
+item_parts (Control name t required default out) rest = word name (word (types.text t) (required_text required (default_text default (arrow (wire out rest)))))
+item_parts (Indicator name t input) rest = word name (word (types.text t) (word (codes "<-") (wire input rest)))
+
 abbrev pub item : PanelItem → Spelling
-item (Control name t required default out) rest =
-    line_from 1 (codes "control") (λ more. word name (word (types.text t) (required_text required (default_text default (word (codes "->") (wire out more)))))) rest
-item (Indicator name t input) rest = line_from 1 (codes "indicator") (λ more. word name (word (types.text t) (word (codes "<-") (wire input more)))) rest
+item i rest = line_from 1 (item_word i) (item_parts i) rest
 
 abbrev pub items : List PanelItem → Spelling
 items [] rest = rest
 items (i ∷ is) rest = item i (items is rest)
 
 -- ---- lines at the border of a structure
-
-abbrev pub arrow : Spelling
-arrow rest = word (codes "->") rest
 
 abbrev pub bar : Spelling
 bar rest = word (codes "|") rest
@@ -148,18 +142,34 @@ abbrev pub default_word : Bool → Spelling
 default_word true rest = word (codes "default") rest
 default_word false rest = rest
 
+abbrev pub border_word : Tunnel → List ℕ
+border_word (line.Tunnel a b) = codes "tunnel"
+border_word (line.Register a b next z) = codes "register"
+border_word (line.Kept t b next z) = codes "register"
+border_word (line.Last a b) = codes "last"
+border_word (line.Gather a b) = codes "gather"
+border_word (line.Index a b) = codes "index"
+border_word (line.Result out default) = codes "result"
+border_word (line.Carry a b) = codes "carry"
+border_word (line.Ref r v next same code) = codes "ref"
+border_word (line.Element a i v next z) = codes "index"
+border_word (line.Field k c v next z) = codes "field"
+
+abbrev pub border_operands : Tunnel → Spelling
+border_operands (line.Tunnel a b) rest = across a b rest
+border_operands (line.Register a b next z) rest = across a b (back next z rest)
+border_operands (line.Kept t b next z) rest = word (codes "_") (word (types.text t) (arrow (wire b (back next z rest))))
+border_operands (line.Last a b) rest = across a b rest
+border_operands (line.Gather a b) rest = across a b rest
+border_operands (line.Index a b) rest = across a b rest
+border_operands (line.Result out default) rest = wire out (default_word default rest)
+border_operands (line.Carry a b) rest = across a b rest
+border_operands (line.Ref r v next same code) rest = across r v (back next same (wire code rest))
+border_operands (line.Element a i v next z) rest = wire a (across i v (back next z rest))
+border_operands (line.Field k c v next z) rest = word (decimal k) (across c v (back next z rest))
+
 abbrev pub border : Tunnel → (depth : ℕ) → Spelling
-border (line.Tunnel a b) depth rest = line_from depth (codes "tunnel") (across a b) rest
-border (line.Register a b next z) depth rest = line_from depth (codes "register") (λ more. across a b (back next z more)) rest
-border (line.Kept t b next z) depth rest = line_from depth (codes "register") (λ more. word (codes "_") (word (types.text t) (arrow (wire b (back next z more))))) rest
-border (line.Last a b) depth rest = line_from depth (codes "last") (across a b) rest
-border (line.Gather a b) depth rest = line_from depth (codes "gather") (across a b) rest
-border (line.Index a b) depth rest = line_from depth (codes "index") (across a b) rest
-border (line.Result out default) depth rest = line_from depth (codes "result") (λ more. wire out (default_word default more)) rest
-border (line.Carry a b) depth rest = line_from depth (codes "carry") (across a b) rest
-border (line.Ref r v next same code) depth rest = line_from depth (codes "ref") (λ more. across r v (back next same (wire code more))) rest
-border (line.Element a i v next z) depth rest = line_from depth (codes "index") (λ more. wire a (across i v (back next z more))) rest
-border (line.Field k c v next z) depth rest = line_from depth (codes "field") (λ more. word (decimal k) (across c v (back next z more))) rest
+border t depth rest = line_from depth (border_word t) (border_operands t) rest
 
 abbrev pub borders : List Tunnel → (depth : ℕ) → Spelling
 borders [] depth rest = rest
@@ -168,7 +178,7 @@ borders (t ∷ ts) depth rest = border t depth (borders ts depth rest)
 abbrev pub selector_text : Selector → Spelling
 selector_text (selector.Number n) rest = signed_decimal n ++ rest
 selector_text (selector.Range low high) rest = signed_decimal low ++ (codes ".." ++ (signed_decimal high ++ rest))
-selector_text (selector.Truth b) rest = truth_text b ++ rest
+selector_text (selector.Truth b) rest = values.truth_text b ++ rest
 selector_text (selector.Text text) rest = quoted text rest
 selector_text selector.Default rest = codes "default" ++ rest
 
@@ -194,22 +204,43 @@ with_body lines body depth rest = borders lines (suc depth) (bare_line depth (co
 abbrev pub ended : Block → Block
 ended block depth rest = block depth (bare_line depth (codes "end") rest)
 
-abbrev pub operation : List ℕ → List Wire → List Wire → Block
-operation head ins outs depth rest = line_from depth head (λ more. wires ins (outputs outs more)) rest
+abbrev pub operands : List Wire → List Wire → Spelling
+operands ins outs rest = wires ins (outputs outs rest)
+
+abbrev pub const_line : Ty → Lit → Wire → Block
+const_line t l out depth rest = line_from depth (codes "const") (λ more. word (types.text t) (32 ∷ literal l (arrow (wire out more)))) rest
+
+abbrev pub obtain_line : (queue : List ℕ) → (size : ℤ) → Ty → Wire → Block
+obtain_line queue size t out depth rest = line_from depth (codes "obtain") (λ more. 32 ∷ quoted queue (word (signed_decimal size) (word (types.text t) (arrow (wire out more))))) rest
+
+abbrev pub read_line : (object : List ℕ) → Wire → Block
+read_line object out depth rest = line_from depth (codes "read") (λ more. word object (arrow (wire out more))) rest
+
+abbrev pub write_line : (object : List ℕ) → Wire → Block
+write_line object input depth rest = line_from depth (codes "write") (λ more. word object (wire input more)) rest
+
+abbrev pub call_line : (vi : List ℕ) → List Wire → List Wire → Block
+call_line vi ins outs depth rest = line_from depth (codes "call") (λ more. word vi (operands ins outs more)) rest
+
+abbrev pub loop_block : List ℕ → Wire → Wire → List Tunnel → Block → Block
+loop_block head a b lines body depth rest = line_from depth head (across a b) (ended (with_body lines body) depth rest)
+
+abbrev pub case_block : Wire → List Tunnel → List Block → Block
+case_block selector lines branches depth rest = line_from depth (codes "case") (wire selector) (borders lines (suc depth) (ended (blocks branches) depth rest))
 
 abbrev pub node_step : Node-F Block Block Block Block → Block
-node_step (Node-F.Const t l out) = λ depth. line_from depth (codes "const") (λ more. word (types.text t) (32 ∷ literal l (arrow (wire out more))))
-node_step (Node-F.Apply op ins outs) = operation (primitive_text op) ins outs
-node_step (Node-F.Shared op ins outs) = operation (shared_text op) ins outs
-node_step (Node-F.Obtain queue size t out) = λ depth. line_from depth (codes "obtain") (λ more. 32 ∷ quoted queue (word (signed_decimal size) (word (types.text t) (arrow (wire out more)))))
-node_step (Node-F.Read object out) = λ depth. line_from depth (codes "read") (λ more. word object (arrow (wire out more)))
-node_step (Node-F.Write object input) = λ depth. line_from depth (codes "write") (λ more. word object (wire input more))
-node_step (Node-F.Call vi ins outs) = λ depth. line_from depth (codes "call") (λ more. word vi (wires ins (outputs outs more)))
-node_step (Node-F.For count iteration lines body) = ended (λ depth rest. line_from depth (codes "for") (across count iteration) (with_body lines body depth rest))
-node_step (Node-F.While stop iteration lines body) = ended (λ depth rest. line_from depth (codes "while") (across stop iteration) (with_body lines body depth rest))
-node_step (Node-F.Case w lines branches) = ended (λ depth rest. line_from depth (codes "case") (wire w) (borders lines (suc depth) (blocks branches depth rest)))
-node_step (Node-F.Sequence frames) = ended (λ depth rest. bare_line depth (codes "sequence") (blocks frames depth rest))
-node_step (Node-F.InPlace lines body) = ended (λ depth rest. bare_line depth (codes "inplace") (with_body lines body depth rest))
+node_step (Node-F.Const t l out) = const_line t l out
+node_step (Node-F.Apply op ins outs) = λ depth. line_from depth (primitive_text op) (operands ins outs)
+node_step (Node-F.Shared op ins outs) = λ depth. line_from depth (shared_text op) (operands ins outs)
+node_step (Node-F.Obtain queue size t out) = obtain_line queue size t out
+node_step (Node-F.Read object out) = read_line object out
+node_step (Node-F.Write object input) = write_line object input
+node_step (Node-F.Call vi ins outs) = call_line vi ins outs
+node_step (Node-F.For count iteration lines body) = loop_block (codes "for") count iteration lines body
+node_step (Node-F.While stop iteration lines body) = loop_block (codes "while") stop iteration lines body
+node_step (Node-F.Case selector lines branches) = case_block selector lines branches
+node_step (Node-F.Sequence frames) = λ depth rest. bare_line depth (codes "sequence") (ended (blocks frames) depth rest)
+node_step (Node-F.InPlace lines body) = λ depth rest. bare_line depth (codes "inplace") (ended (with_body lines body) depth rest)
 
 abbrev pub branch_step : Branch-F Block Block Block Block → Block
 branch_step b = λ depth rest. line_from depth (codes "when") (λ more. 32 ∷ listed (map selector_text b.selectors) more) (give_text b.gives (suc depth) (b.body (suc depth) rest))
@@ -223,14 +254,19 @@ frame_step f = λ depth rest. bare_line depth (codes "frame") (with_body f.lines
 abbrev pub node : Node → Block
 node = fold-Node Block Block Block Block node_step branch_step diagram_step frame_step
 
-abbrev pub nodes : List Node → (depth : ℕ) → Spelling
-nodes [] depth rest = rest
-nodes (n ∷ ns) depth rest = node n depth (nodes ns depth rest)
+abbrev pub diagram : Diagram → Block
+diagram = fold-Diagram Block Block Block Block node_step branch_step diagram_step frame_step
+
+abbrev pub branch : Branch → Block
+branch = fold-Branch Block Block Block Block node_step branch_step diagram_step frame_step
+
+abbrev pub frame : SequenceFrame → Block
+frame = fold-SequenceFrame Block Block Block Block node_step branch_step diagram_step frame_step
 
 -- ---- VIs
 
 abbrev pub vi_text : Vi → Spelling
-vi_text vi rest = line_from 0 (codes "vi") (λ more. word vi.name (word (clones_text vi.clones) (word (system_text vi.system) more))) (items vi.panel (nodes vi.top.nodes 1 (bare_line 0 (codes "end") rest)))
+vi_text vi rest = line_from 0 (codes "vi") (λ more. word vi.name (word (clones_text vi.clones) (word (system_text vi.system) more))) (items vi.panel (diagram vi.top 1 (bare_line 0 (codes "end") rest)))
 
 abbrev pub vis_text : List Vi → Spelling
 vis_text [] rest = rest

@@ -1,5 +1,5 @@
 -- The words that a listing writes for operations, clones and systems.
-use Rattle.std.specs.Prelude.{ℕ, List, ◌++◌, codes}
+use Rattle.std.specs.Prelude.{ℕ, List, [], ◌∷◌, ◌++◌, Option, Some, None, codes}
 use Rattle.std.specs.Fmt.{decimal}
 use Rattle.g_values.specs.declared.primitive.Primitive.{Primitive}
 use Rattle.g_values.specs.declared.primitive.Primitive.TheVariants as op
@@ -10,64 +10,79 @@ use Rattle.g_diagram.specs.declared.hierarchy.Clones.TheVariants.{NonReentrant, 
 use Rattle.g_diagram.specs.declared.hierarchy.System.{System}
 use Rattle.g_diagram.specs.declared.hierarchy.System.TheVariants as system
 
+-- the word of an operation
+abbrev pub primitive_word : Primitive → List ℕ
+primitive_word op.Add = codes "add"
+primitive_word op.Sub = codes "sub"
+primitive_word op.Mul = codes "mul"
+primitive_word op.Inc = codes "inc"
+primitive_word op.Dec = codes "dec"
+primitive_word op.Neg = codes "neg"
+primitive_word op.Abs = codes "abs"
+primitive_word op.QuotRem = codes "quotrem"
+primitive_word op.MaxMin = codes "max_min"
+primitive_word op.And = codes "and"
+primitive_word op.Or = codes "or"
+primitive_word op.Xor = codes "xor"
+primitive_word op.Not = codes "not"
+primitive_word op.Shift = codes "shift"
+primitive_word op.ToI8 = codes "to_i8"
+primitive_word op.ToI16 = codes "to_i16"
+primitive_word op.ToI32 = codes "to_i32"
+primitive_word op.ToI64 = codes "to_i64"
+primitive_word op.ToU8 = codes "to_u8"
+primitive_word op.ToU16 = codes "to_u16"
+primitive_word op.ToU32 = codes "to_u32"
+primitive_word op.ToU64 = codes "to_u64"
+primitive_word op.BoolInt = codes "bool_int"
+primitive_word op.Eq = codes "eq"
+primitive_word op.Ne = codes "ne"
+primitive_word op.Lt = codes "lt"
+primitive_word op.Le = codes "le"
+primitive_word op.Gt = codes "gt"
+primitive_word op.Ge = codes "ge"
+primitive_word op.Select = codes "select"
+primitive_word op.All = codes "all"
+primitive_word op.Any = codes "any"
+primitive_word op.ArraySize = codes "array_size"
+primitive_word op.IndexArray = codes "index_array"
+primitive_word op.Replace = codes "replace"
+primitive_word op.Build = codes "build"
+primitive_word op.Concat = codes "concat"
+primitive_word op.Initialize = codes "initialize"
+primitive_word op.Subset = codes "subset"
+primitive_word op.Delete = codes "delete"
+primitive_word op.Reverse = codes "reverse"
+primitive_word op.Sort = codes "sort"
+primitive_word op.Sum = codes "sum"
+primitive_word op.Product = codes "product"
+primitive_word op.Search = codes "search"
+primitive_word op.StrLen = codes "str_len"
+primitive_word op.StrConcat = codes "str_concat"
+primitive_word op.StrSubset = codes "str_subset"
+primitive_word op.StrBytes = codes "str_bytes"
+primitive_word op.BytesStr = codes "bytes_str"
+primitive_word op.NumStr = codes "num_str"
+primitive_word op.StrNum = codes "str_num"
+primitive_word op.Bundle = codes "bundle"
+primitive_word op.Unbundle = codes "unbundle"
+primitive_word (op.Get k) = codes "get"
+primitive_word (op.Set k) = codes "set"
+
+-- the element of `get` and `set`
+abbrev pub field_of : Primitive → Option ℕ
+field_of (op.Get k) = Some k
+field_of (op.Set k) = Some k
+field_of other = None
+
+-- a space and a number, where there is one
+abbrev pub number_text : Option ℕ → List ℕ
+number_text None = []
+number_text (Some n) = 32 ∷ decimal n
+
 -- `get` and `set` are followed by the number of their element
 abbrev pub primitive_text : Primitive → List ℕ
-primitive_text op.Add = codes "add"
-primitive_text op.Sub = codes "sub"
-primitive_text op.Mul = codes "mul"
-primitive_text op.Inc = codes "inc"
-primitive_text op.Dec = codes "dec"
-primitive_text op.Neg = codes "neg"
-primitive_text op.Abs = codes "abs"
-primitive_text op.QuotRem = codes "quotrem"
-primitive_text op.MaxMin = codes "max_min"
-primitive_text op.And = codes "and"
-primitive_text op.Or = codes "or"
-primitive_text op.Xor = codes "xor"
-primitive_text op.Not = codes "not"
-primitive_text op.Shift = codes "shift"
-primitive_text op.ToI8 = codes "to_i8"
-primitive_text op.ToI16 = codes "to_i16"
-primitive_text op.ToI32 = codes "to_i32"
-primitive_text op.ToI64 = codes "to_i64"
-primitive_text op.ToU8 = codes "to_u8"
-primitive_text op.ToU16 = codes "to_u16"
-primitive_text op.ToU32 = codes "to_u32"
-primitive_text op.ToU64 = codes "to_u64"
-primitive_text op.BoolInt = codes "bool_int"
-primitive_text op.Eq = codes "eq"
-primitive_text op.Ne = codes "ne"
-primitive_text op.Lt = codes "lt"
-primitive_text op.Le = codes "le"
-primitive_text op.Gt = codes "gt"
-primitive_text op.Ge = codes "ge"
-primitive_text op.Select = codes "select"
-primitive_text op.All = codes "all"
-primitive_text op.Any = codes "any"
-primitive_text op.ArraySize = codes "array_size"
-primitive_text op.IndexArray = codes "index_array"
-primitive_text op.Replace = codes "replace"
-primitive_text op.Build = codes "build"
-primitive_text op.Concat = codes "concat"
-primitive_text op.Initialize = codes "initialize"
-primitive_text op.Subset = codes "subset"
-primitive_text op.Delete = codes "delete"
-primitive_text op.Reverse = codes "reverse"
-primitive_text op.Sort = codes "sort"
-primitive_text op.Sum = codes "sum"
-primitive_text op.Product = codes "product"
-primitive_text op.Search = codes "search"
-primitive_text op.StrLen = codes "str_len"
-primitive_text op.StrConcat = codes "str_concat"
-primitive_text op.StrSubset = codes "str_subset"
-primitive_text op.StrBytes = codes "str_bytes"
-primitive_text op.BytesStr = codes "bytes_str"
-primitive_text op.NumStr = codes "num_str"
-primitive_text op.StrNum = codes "str_num"
-primitive_text op.Bundle = codes "bundle"
-primitive_text op.Unbundle = codes "unbundle"
-primitive_text (op.Get k) = codes "get " ++ decimal k
-primitive_text (op.Set k) = codes "set " ++ decimal k
+primitive_text op = primitive_word op ++ number_text (field_of op)
 
 abbrev pub shared_text : SharedOp → List ℕ
 shared_text shared.Enqueue = codes "enqueue"
@@ -77,10 +92,18 @@ shared_text shared.Size = codes "qsize"
 shared_text shared.NewRef = codes "newref"
 shared_text shared.DelRef = codes "delref"
 
+abbrev pub clones_word : Clones → List ℕ
+clones_word NonReentrant = codes "nonreentrant"
+clones_word Preallocated = codes "preallocated"
+clones_word (Pool n) = codes "pool"
+
+abbrev pub pool_size : Clones → Option ℕ
+pool_size (Pool n) = Some n
+pool_size other = None
+
+-- `pool` is followed by the number of its data spaces
 abbrev pub clones_text : Clones → List ℕ
-clones_text NonReentrant = codes "nonreentrant"
-clones_text Preallocated = codes "preallocated"
-clones_text (Pool n) = codes "pool " ++ decimal n
+clones_text clones = clones_word clones ++ number_text (pool_size clones)
 
 abbrev pub system_text : System → List ℕ
 system_text system.Ui = codes "ui"
