@@ -1,6 +1,7 @@
 -- Operands and ports, as the definitions have them.
-use Rattle.std.specs.Prelude.{ℕ, List, Option, Some, None}
+use Rattle.std.specs.Prelude.{ℕ, Bool, true, false, List, Option, Some, None}
 use denote.Ref.{Bor}
+use Rattle.g_diagram.specs.declared.node.Tunnel.{Tunnel}
 use Rattle.g_diagram.specs.Lines.{Wire}
 use Rattle.g_diagram.specs.Operands as operands
 use Rattle.g_diagram.specs.Ports as ports
@@ -24,3 +25,8 @@ seen_operand o = record { is_source = o.is_source; side = seen_side o.side; is_f
 abbrev pub seen : Port → ports.Port
 seen p =
     record { line = p.line; operand = p.operand; diagram = p.diagram; node = p.node; is_source = p.is_source; is_free = p.is_free; wire = seen_wire p.wire }
+
+-- the table of operands of a border line
+abbrev pub form_of : (in_case : Bool) → Tunnel → List operands.Operand
+form_of true t = operands.case_border t
+form_of false t = operands.border t

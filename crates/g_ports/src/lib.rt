@@ -3,8 +3,12 @@
 #![tactic(auto)]
 
 mod border;
+mod callee;
 mod operand;
 mod port;
+pub mod ports;
+mod push;
 
+pub use callee::{Callees, callees};
 pub use operand::{Operand, Side};
 pub use port::Port;

@@ -1,12 +1,11 @@
 //! The operands of each form of line.
 
-ghost use Rattle.std.specs.Prelude.{◌≡◌, ◌++◌, map, IfOk, OnOk};
+ghost use Rattle.std.specs.Prelude.{◌≡◌};
 ghost use Rattle.g_diagram.specs.Operands as spec;
 ghost use Rattle.g_ports.specs.Seen.{seen_side, seen_operand};
 
-use g_diagram::{Tunnel, Wire};
+use g_diagram::Wire;
 use g_types::Name;
-use std::alloc::{AllocError, Global};
 
 /// The side of a structure's border on which an operand stands.
 #[derive(Clone, Copy, Debug)]
@@ -35,7 +34,7 @@ pub fn source<'a>(side: Side, wire: &'a Wire) -> Operand<'a>
     Operand { is_source: true, side, is_free: false, wire: wire.as_ref() }
 }
 
-fn free_source<'a>(side: Side, wire: &'a Wire) -> Operand<'a>
+pub fn free_source<'a>(side: Side, wire: &'a Wire) -> Operand<'a>
     ensures { seen_operand result ≡ spec.free_source (seen_side side) wire.now }
 {
     Operand { is_source: true, side, is_free: true, wire: wire.as_ref() }

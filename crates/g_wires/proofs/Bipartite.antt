@@ -113,21 +113,21 @@ module _ (lines : ℕ) (cs : List Coded) (nodes : All (NodeBelow lines) cs) wher
       let c : Found (NodeBelow lines) (λ c. not c.is_source && coded_feeds a b s.item c) cs =
           found (NodeBelow lines) (λ c. not c.is_source && coded_feeds a b s.item c) cs nodes (sym (any_filter (coded_feeds a b s.item) (λ c. not c.is_source) cs) ∙ inner) in
       let feeds = and_right (not c.item.is_source) (coded_feeds a b s.item c.item) c.passes in
-      let rest = and_right (is_number s.item.node a) (is_number c.item.node b && same_number_of s.item.wire c.item.wire) feeds in
-      let one : Shared s.item.wire c.item.wire = shared s.item.wire c.item.wire (and_right (is_number c.item.node b) (same_number_of s.item.wire c.item.wire) rest) in
+      let ends = and_left (is_number s.item.node a && is_number c.item.node b) (same_number_of s.item.wire c.item.wire) feeds in
+      let one : Shared s.item.wire c.item.wire = shared s.item.wire c.item.wire (and_right (is_number s.item.node a && is_number c.item.node b) (same_number_of s.item.wire c.item.wire) feeds) in
       record {
         number = one.number;
         source = s.item;
         is_source = and_left s.item.is_source (list_any (coded_feeds a b s.item) (filter (λ c. not c.is_source) cs)) s.passes;
-        source_node = number_is s.item.node a (and_left (is_number s.item.node a) (is_number c.item.node b && same_number_of s.item.wire c.item.wire) feeds);
+        source_node = number_is s.item.node a (and_left (is_number s.item.node a) (is_number c.item.node b) ends);
         source_wire = one.first;
         has_source = s.within;
         consumer = c.item;
         is_consumer = not_true c.item.is_source (and_left (not c.item.is_source) (coded_feeds a b s.item c.item) c.passes);
-        consumer_node = number_is c.item.node b (and_left (is_number c.item.node b) (same_number_of s.item.wire c.item.wire) rest);
+        consumer_node = number_is c.item.node b (and_right (is_number s.item.node a) (is_number c.item.node b) ends);
         consumer_wire = one.second;
         has_consumer = c.within;
-        below = below_of lines a s.item.node s.holds (number_is s.item.node a (and_left (is_number s.item.node a) (is_number c.item.node b && same_number_of s.item.wire c.item.wire) feeds));
+        below = below_of lines a s.item.node s.holds (number_is s.item.node a (and_left (is_number s.item.node a) (is_number c.item.node b) ends));
       }
 
   -- a wire is two edges
@@ -175,8 +175,8 @@ module _ (lines : ℕ) (cs : List Coded) (nodes : All (NodeBelow lines) cs) wher
   one_wire : (a b v : ℕ) (s c : Coded) → s.is_source ≡ true → s.node ≡ Some a → s.wire ≡ Some v → ((f : Coded → Bool) → f s ≡ true → list_any f cs ≡ true)
       → c.is_source ≡ false → c.node ≡ Some b → c.wire ≡ Some v → ((f : Coded → Bool) → f c ≡ true → list_any f cs ≡ true) → coded_wire cs a b ≡ true
   one_wire a b v s c es en ew hs fc fn fw hc =
-      let feeds : coded_feeds a b s c ≡ true = and_both (is_number s.node a) (is_number c.node b && same_number_of s.wire c.wire) (is_number_is s.node a en)
-          (and_both (is_number c.node b) (same_number_of s.wire c.wire) (is_number_is c.node b fn) (share s.wire c.wire v ew fw)) in
+      let feeds : coded_feeds a b s c ≡ true = and_both (is_number s.node a && is_number c.node b) (same_number_of s.wire c.wire)
+          (and_both (is_number s.node a) (is_number c.node b) (is_number_is s.node a en) (is_number_is c.node b fn)) (share s.wire c.wire v ew fw) in
       let inner : list_any (coded_feeds a b s) (filter (λ c. not c.is_source) cs) ≡ true =
           any_filter (coded_feeds a b s) (λ c. not c.is_source) cs
           ∙ hc (λ c. not c.is_source && coded_feeds a b s c) (and_both (not c.is_source) (coded_feeds a b s c) (ap not fc) feeds) in

@@ -1,2 +1,4 @@
 pub mod Found
 pub mod Bipartite
+pub mod NumberLemmas
+pub mod Faithful

@@ -58,8 +58,17 @@ same_number_of (Some v) None = false
 same_number_of (Some v) (Some w) = v == w
 
 abbrev pub coded_feeds : (a b : ℕ) → Coded → Coded → Bool
-coded_feeds a b s c = is_number s.node a && (is_number c.node b && same_number_of s.wire c.wire)
+coded_feeds a b s c = is_number s.node a && is_number c.node b && same_number_of s.wire c.wire
 
 -- a wire leads from node a to node b
 abbrev pub coded_wire : List Coded → (a b : ℕ) → Bool
 coded_wire cs a b = list_any (λ s. list_any (coded_feeds a b s) (filter (λ c. not c.is_source) cs)) (filter (λ s. s.is_source) cs)
+
+-- the breaks of rule 6, by marks of the lines that lead to themselves
+abbrev pub line_break : (vi line : ℕ) → Break
+line_break vi line = record { place = record { vi = vi; line = line; operand = 0 }; rule = 6 }
+
+abbrev pub marked_from : (vi line : ℕ) → List Bool → List Break
+marked_from vi line [] = []
+marked_from vi line (true ∷ marks) = line_break vi line ∷ marked_from vi (line + 1) marks
+marked_from vi line (false ∷ marks) = marked_from vi (line + 1) marks

@@ -4,7 +4,7 @@
 ghost use Rattle.std.specs.Prelude.{◌≡◌, ◌<◌, ◌≤◌, ◌+◌, ◌&&◌, ◌||◌, ◌==◌, ℕ, false, length, IfOk, OnOk, IfSome, All};
 ghost use Rattle.std.specs.List.{list_any};
 ghost use Rattle.g_graph.specs.Graph.{has_edge, InRange};
-ghost use Rattle.g_wires.specs.Marks.{ends_of, is_edge, WireBelow, NodeBelow};
+ghost use Rattle.g_wires.specs.Marks.{is_edge, WireBelow, NodeBelow};
 
 use crate::coded::Coded;
 use std::alloc::{AllocError, Global};
@@ -58,17 +58,38 @@ fn add_edge(graph: &mut Vec<Vec<usize>>, from: usize, to: usize) -> Result<(), A
     Ok(())
 }
 
-/// The ends of the edge of a port, if it has one: a node leads to the wires that it gives, and a wire
-/// to the nodes that take it.
-fn ends(lines: usize, port: &Coded) -> Option<(usize, usize)>
-    requires wires { WireBelow (2 ^ 62) port.now }
-    requires lines { lines < 2 ^ 62 }
-    ensures { result ≡ ends_of lines port.now }
+/// Adds the edge of a port, if it has one: a node leads to the wires that it gives, and a wire to the
+/// nodes that take it.
+fn add_port(graph: &mut Vec<Vec<usize>>, lines: usize, count: usize, port: &Coded) -> Result<(), AllocError>
+    requires wires { WireBelow count port.now }
+    requires nodes { NodeBelow lines port.now }
+    requires fits { lines + count ≡ length graph.old.items }
+    requires in_range { InRange graph.old.items }
+    ensures len { length graph.new.items ≡ length graph.old.items }
+    ensures in_range { OnOk result (InRange graph.new.items) }
+    ensures edges { OnOk result ((a b : ℕ) → has_edge graph.new.items a b ≡ (has_edge graph.old.items a b || is_edge lines a b port.now)) }
 {
-    let node = port.node? as usize;
-    let wire = lines + port.wire?;
-    if port.is_source {
-        return Some((node, wire));
+    match (port.node, port.wire) {
+        (Some(node), Some(wire)) => {
+            let (node, wire) = (node as usize, lines + wire);
+            if port.is_source { add_edge(graph, node, wire) } else { add_edge(graph, wire, node) }
+        }
+        _ => Ok(()),
     }
-    Some((wire, node))
+}
+
+/// The graph of ports: the lines are its first vertices, and then come the wires.
+pub fn graph_of(alloc: Global, lines: usize, count: usize, ports: &[Coded]) -> Result<Vec<Vec<usize>>, AllocError>
+    requires wires { All (WireBelow count) ports.now }
+    requires nodes { All (NodeBelow lines) ports.now }
+    requires small { lines + count < 2 ^ 64 }
+    ensures len { IfOk result (λ graph. length graph.items ≡ lines + count) }
+    ensures in_range { IfOk result (λ graph. InRange graph.items) }
+    ensures edges { IfOk result (λ graph. (a b : ℕ) → has_edge graph.items a b ≡ list_any (is_edge lines a b) ports.now) }
+{
+    let mut graph = bare(alloc, lines + count)?;
+    for port in ports {
+        add_port(&mut graph, lines, count, port)?;
+    }
+    Ok(graph)
 }
