@@ -1,7 +1,9 @@
 pub mod Maps
 pub mod Wires
+pub mod Names
 pub mod Program
 pub mod State
 pub mod Fire
 pub mod Run
+pub mod Plan
 pub mod Print

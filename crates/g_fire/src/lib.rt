@@ -3,6 +3,8 @@
 
 mod firing;
 mod maps;
+mod names;
+mod plan;
 mod state;
 
 pub use firing::{Firing, FrameNode, Trace};

@@ -1,0 +1,98 @@
+-- What the code keeps of each node, and what its firing does by it.
+use Rattle.std.specs.Prelude.{ℕ, ◌+◌, ◌==◌, Bool, true, false, ◌&&◌, not, List, [], ◌∷◌, map, length, slice_get, Option, Some, None, is_some}
+use Rattle.std.specs.List.{list_all}
+use Rattle.g_types.specs.declared.ty.Ty.{Ty, out-Ty}
+use Rattle.g_types.specs.declared.ty.Ty.TheOpen.{Ty-F}
+use Rattle.g_values.specs.declared.num.Num.{Num}
+use Rattle.g_values.specs.declared.value.Value.{Value}
+use Rattle.g_values.specs.declared.value.Value.TheVariants as value
+use Rattle.g_values.specs.Coerce.{coerced}
+use Rattle.g_values.specs.Number.{num_of}
+use Rattle.g_diagram.specs.declared.panel.Lit.{Lit}
+use Rattle.g_diagram.specs.declared.panel.Lit.TheViews.{out-Lit}
+use Rattle.g_diagram.specs.declared.panel.Lit.TheOpen.{Lit-F}
+use Rattle.g_diagram.specs.Lines.{Wire, Entry, Kind, Const, Apply, Shows}
+use Rattle.g_operations.specs.Values.{outputs_of}
+use Rattle.g_fire.specs.declared.firing.Firing.{Firing}
+use Rattle.g_fire.specs.declared.maps.WireSource.{WireSource}
+use Rattle.g_fire.specs.declared.plan.Input.{Input}
+use Rattle.g_fire.specs.declared.plan.Input.TheVariants.{Unwired, Missing, From}
+use Rattle.g_fire.specs.declared.plan.Work.{Work}
+use Rattle.g_fire.specs.declared.plan.Work.TheVariants as work
+use Rattle.g_fire.specs.declared.plan.Step.{Step}
+use Rattle.g_fire.specs.declared.state.FireState.{FireState}
+use Rattle.g_fire.specs.declared.state.Fired.TheVariants.{Once}
+use Rattle.g_fire.specs.State.{is_done}
+use Rattle.g_fire.specs.Wires.{inputs_of}
+use Rattle.g_fire.specs.Fire.{Effect, gives, outputs_from, value_from, or_false, guard, shows_in, or_same}
+use Rattle.g_fire.specs.Run.{firing}
+
+-- where names have their sources
+abbrev pub Finder : Type 0
+Finder = List ℕ → Option WireSource
+
+abbrev pub found_input : Option WireSource → Input
+found_input None = Missing
+found_input (Some source) = From source
+
+abbrev pub input_on : Finder → Wire → Input
+input_on find None = Unwired
+input_on find (Some name) = found_input (find name)
+
+-- the number of a literal of a number type
+abbrev pub literal_number_at : Ty-F Ty → Lit-F Lit → Option Num
+literal_number_at (Ty-F.Num r) (Lit-F.Number n) = Some (num_of r n)
+literal_number_at _ _ = None
+
+abbrev pub literal_number : Ty → Lit → Option Num
+literal_number t literal = literal_number_at (out-Ty t) (out-Lit literal)
+
+abbrev pub const_work : Option Num → Work
+const_work None = work.Never
+const_work (Some x) = work.Give x
+
+abbrev pub work_of : Kind → Work
+work_of (Const t literal out) = const_work (literal_number t literal)
+work_of (Apply op inputs outputs) = work.Apply op (length inputs + 1)
+work_of (Shows name t w) = work.Show t
+work_of _ = work.Never
+
+abbrev pub step_of : Finder → Entry → Step
+step_of find e = record { line = e.line; inputs = map (input_on find) (inputs_of e); work = work_of e.kind }
+
+-- ---- in frame 0
+
+abbrev pub input_value : FireState → Input → Option Value
+input_value s Unwired = None
+input_value s Missing = None
+input_value s (From source) = value_from s 0 (Some source)
+
+abbrev pub has_input : FireState → Input → Bool
+has_input s Unwired = true
+has_input s Missing = false
+has_input s (From source) = is_some (value_from s 0 (Some source))
+
+abbrev pub value_of_input : FireState → Input → Value
+value_of_input s i = or_false (input_value s i)
+
+abbrev pub step_ready : FireState → Step → Bool
+step_ready s st = not (is_done s 0 st.line) && list_all (has_input s) st.inputs
+
+abbrev pub first_value : List Value → Value
+first_value [] = value.Bool false
+first_value (v ∷ vs) = v
+
+abbrev pub work_effect : FireState → (line : ℕ) → List Value → Work → Option Effect
+work_effect s line vs work.Never = None
+work_effect s line vs (work.Give x) = Some (gives Once (outputs_from line 1 (value.Num x ∷ [])))
+work_effect s line vs (work.Apply op first) = Some (gives Once (outputs_from line first (outputs_of op vs)))
+work_effect s line vs (work.Show t) = shows_in 0 line (coerced (first_value vs) t) (slice_get s.objects 0)
+
+abbrev pub step_effect : FireState → Step → Option Effect
+step_effect s st = guard (step_ready s st) (work_effect s st.line (map (value_of_input s) st.inputs) st.work)
+
+abbrev pub step_can : FireState → Step → Bool
+step_can s st = is_some (step_effect s st)
+
+abbrev pub step_fired : FireState → Step → FireState
+step_fired s st = or_same s (firing 0 st.line) (step_effect s st)
