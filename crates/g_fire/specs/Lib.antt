@@ -4,6 +4,7 @@ pub mod Names
 pub mod Program
 pub mod State
 pub mod Fire
+pub mod Cells
 pub mod Run
 pub mod Plan
 pub mod Print

@@ -1,19 +1,24 @@
 -- What the code keeps of each node, and what its firing does by it.
-use Rattle.std.specs.Prelude.{ℕ, ◌+◌, ◌==◌, Bool, true, false, ◌&&◌, not, List, [], ◌∷◌, map, length, slice_get, Option, Some, None, is_some}
+use Rattle.std.specs.Prelude.{◌≡◌, ℕ, ◌+◌, ◌==◌, Bool, true, false, ◌&&◌, not, List, [], ◌∷◌, map, length, slice_get, Option, Some, None, is_some}
 use Rattle.std.specs.List.{list_all}
+use Rattle.g_types.specs.declared.rep.Rep.{Rep}
+use Rattle.g_types.specs.declared.rep.Rep.TheVariants.{I32}
 use Rattle.g_types.specs.declared.ty.Ty.{Ty, out-Ty}
 use Rattle.g_types.specs.declared.ty.Ty.TheOpen.{Ty-F}
 use Rattle.g_values.specs.declared.num.Num.{Num}
-use Rattle.g_values.specs.declared.value.Value.{Value}
+use Rattle.g_values.specs.declared.value.Value.{Value, out-Value}
+use Rattle.g_values.specs.declared.value.Value.TheOpen.{Value-F}
 use Rattle.g_values.specs.declared.value.Value.TheVariants as value
 use Rattle.g_values.specs.Coerce.{coerced}
 use Rattle.g_values.specs.Number.{num_of}
 use Rattle.g_diagram.specs.declared.panel.Lit.{Lit}
 use Rattle.g_diagram.specs.declared.panel.Lit.TheViews.{out-Lit}
 use Rattle.g_diagram.specs.declared.panel.Lit.TheOpen.{Lit-F}
+use Rattle.g_diagram.specs.Form.{is_sum}
 use Rattle.g_diagram.specs.Lines.{Wire, Entry, Kind, Const, Apply, Shows}
 use Rattle.g_operations.specs.Values.{outputs_of}
 use Rattle.g_fire.specs.declared.firing.Firing.{Firing}
+use Rattle.g_fire.specs.declared.maps.Terminal.{Terminal}
 use Rattle.g_fire.specs.declared.maps.WireSource.{WireSource}
 use Rattle.g_fire.specs.declared.plan.Input.{Input}
 use Rattle.g_fire.specs.declared.plan.Input.TheVariants.{Unwired, Missing, From}
@@ -96,3 +101,37 @@ step_can s st = is_some (step_effect s st)
 
 abbrev pub step_fired : FireState → Step → FireState
 step_fired s st = or_same s (firing 0 st.line) (step_effect s st)
+
+-- ---- the form: 32-bit sums
+
+abbrev pub is_i32_rep : Rep → Bool
+is_i32_rep I32 = true
+is_i32_rep _ = false
+
+abbrev pub is_i32_at : Value-F Value → Bool
+is_i32_at (Value-F.Num x) = is_i32_rep x.rep
+is_i32_at _ = false
+
+abbrev pub is_i32 : Value → Bool
+is_i32 v = is_i32_at (out-Value v)
+
+abbrev pub are_i32 : List (Terminal × Value) → Bool
+are_i32 known = list_all (λ e. is_i32 e.1) known
+
+abbrev pub is_wired : Input → Bool
+is_wired Unwired = false
+is_wired Missing = true
+is_wired (From source) = true
+
+abbrev pub plain_work : (inputs : ℕ) → Work → Bool
+plain_work n work.Never = true
+plain_work n (work.Give x) = is_i32_rep x.rep
+plain_work n (work.Apply op first) = is_sum op && (n == 2)
+plain_work n (work.Show t) = n == 1
+
+abbrev pub step_plain : Step → Bool
+step_plain st = plain_work (length st.inputs) st.work && list_all is_wired st.inputs
+
+-- the step at a place can fire
+abbrev pub CanAt : FireState → List Step → ℕ → Type 0
+CanAt s steps k = (st : Step) × (slice_get steps k ≡ Some st) × (step_can s st ≡ true)

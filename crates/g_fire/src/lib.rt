@@ -2,9 +2,11 @@
 #![tactic(auto)]
 
 mod firing;
+mod machine;
 mod maps;
 mod names;
 mod plan;
+mod run;
 mod state;
 
 pub use firing::{Firing, FrameNode, Trace};
