@@ -1,6 +1,6 @@
 -- What the code keeps of each node, and what its firing does by it.
-use Rattle.std.specs.Prelude.{◌≡◌, ℕ, ◌+◌, ◌==◌, Bool, true, false, ◌&&◌, not, List, [], ◌∷◌, map, length, slice_get, Option, Some, None, is_some}
-use Rattle.std.specs.List.{list_all}
+use Rattle.std.specs.Prelude.{◌≡◌, ℕ, ◌+◌, ◌≤◌, ◌==◌, Bool, true, false, ◌&&◌, not, IsTrue, ⊤, List, [], ◌∷◌, map, length, slice_get, Option, Some, None, is_some}
+use Rattle.std.specs.List.{list_all, count_by}
 use Rattle.g_types.specs.declared.rep.Rep.{Rep}
 use Rattle.g_types.specs.declared.rep.Rep.TheVariants.{I32}
 use Rattle.g_types.specs.declared.ty.Ty.{Ty, out-Ty}
@@ -14,7 +14,9 @@ use Rattle.g_values.specs.Number.{num_of}
 use Rattle.g_diagram.specs.declared.panel.Lit.{Lit}
 use Rattle.g_diagram.specs.declared.panel.Lit.TheViews.{out-Lit}
 use Rattle.g_diagram.specs.declared.panel.Lit.TheOpen.{Lit-F}
-use Rattle.g_diagram.specs.Form.{is_sum}
+use Rattle.g_diagram.specs.declared.hierarchy.Hierarchy.{Hierarchy}
+use Rattle.g_diagram.specs.declared.hierarchy.Vi.{Vi}
+use Rattle.g_diagram.specs.Form.{is_sum, is_indicator}
 use Rattle.g_diagram.specs.Lines.{Wire, Entry, Kind, Const, Apply, Shows}
 use Rattle.g_operations.specs.Values.{outputs_of}
 use Rattle.g_fire.specs.declared.firing.Firing.{Firing}
@@ -28,7 +30,8 @@ use Rattle.g_fire.specs.declared.plan.Step.{Step}
 use Rattle.g_fire.specs.declared.state.FireState.{FireState}
 use Rattle.g_fire.specs.declared.state.Fired.TheVariants.{Once}
 use Rattle.g_fire.specs.State.{is_done}
-use Rattle.g_fire.specs.Wires.{inputs_of}
+use Rattle.g_fire.specs.Program.{FlatVi, Program, vi_in}
+use Rattle.g_fire.specs.Wires.{source_of, inputs_of}
 use Rattle.g_fire.specs.Fire.{Effect, gives, outputs_from, value_from, or_false, guard, shows_in, or_same}
 use Rattle.g_fire.specs.Run.{firing}
 
@@ -135,3 +138,23 @@ step_plain st = plain_work (length st.inputs) st.work && list_all is_wired st.in
 -- the step at a place can fire
 abbrev pub CanAt : FireState → List Step → ℕ → Type 0
 CanAt s steps k = (st : Step) × (slice_get steps k ≡ Some st) × (step_can s st ≡ true)
+
+-- nodes of the VI's own diagram, each on a later line than those before it, from a line on
+abbrev pub Ascends : (line : ℕ) → List Entry → Type 0
+Ascends n [] = ⊤
+Ascends n (e ∷ es) = (n ≤ e.line) × (e.diagram ≡ 0) × Ascends (e.line + 1) es
+
+-- the steps are the nodes of the VI that runs
+pub record IsPlan (p : Program) (steps : List Step) : Type 0 where
+  pub vi : FlatVi
+  pub first : vi_in p 0 ≡ Some vi
+  pub find : Finder
+  pub finds : (name : List ℕ) → find name ≡ source_of vi.ports 0 name
+  pub steps_are : steps ≡ map (step_of find) vi.entries
+  pub ascends : Ascends 0 vi.entries
+  pub plain : IsTrue (list_all step_plain steps)
+
+-- a number of 32 bits for each control
+pub record AreControls (h : Hierarchy) (controls : List Value) : Type 0 where
+  pub numbers : IsTrue (list_all is_i32 controls)
+  pub each : (vi : Vi) → h.vis ≡ vi ∷ [] → length controls ≡ count_by (λ item. not (is_indicator item)) vi.panel

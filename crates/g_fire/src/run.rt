@@ -1,11 +1,20 @@
 //! Whole runs.
 
-ghost use Rattle.std.specs.Prelude.{◌≡◌, false, IfOk, IfSome, IfNone};
+ghost use Rattle.std.specs.Prelude.{◌≡◌, false, Some, IfOk, IfSome, IfNone};
 ghost use Rattle.std.specs.List.{list_any};
-ghost use Rattle.g_fire.specs.Plan.{step_can, CanAt};
+ghost use Rattle.g_diagram.specs.Form.{IsForm};
+ghost use Rattle.g_fire.specs.Plan.{step_can, CanAt, IsPlan, AreControls};
+ghost use Rattle.g_fire.specs.Program.{program};
+ghost use Rattle.g_fire.specs.Run.{after, IsAtRest};
 
-use crate::plan::{Input, Step};
+use crate::firing::{Firing, Trace};
+use crate::names::names_of;
+use crate::plan::{Input, Step, plan};
+use crate::start::first_state;
 use crate::state::FireState;
+use g_diagram::Hierarchy;
+use g_lists::List;
+use g_values::ValueList;
 use std::alloc::{AllocError, Global};
 use std::collections::BTreeSet;
 
@@ -79,4 +88,61 @@ fn next_step(steps: &[Step], state: &FireState, noted: &mut BTreeSet<usize>) -> 
         Some(at) => Some(at),
         None => least_step(steps, state),
     }
+}
+
+/// The nodes of the VI that runs.
+fn steps_of(alloc: Global, h: &Hierarchy) -> Result<List<Step>, AllocError>
+    requires { IsForm h.now }
+    ensures { IfOk result (λ steps. IsPlan (program h.now) steps) }
+{
+    let vi = &h.vis.as_slice()[0];
+    let names = names_of(alloc, vi)?;
+    plan(alloc, &names, vi)
+}
+
+/// All nodes, noted.
+fn all_noted(alloc: Global, steps: &[Step]) -> Result<BTreeSet<usize>, AllocError> {
+    let mut noted = BTreeSet::new(alloc);
+    for at in 0..steps.len() {
+        noted.insert(at)?;
+    }
+    Ok(noted)
+}
+
+/// A run: what fired, and the state that it ended in.
+#[derive(Drop)]
+pub struct Ran {
+    pub trace: Trace,
+    pub state: FireState,
+}
+
+/// Runs a hierarchy of one VI of 32-bit sums on the values of its controls: fires the node of the
+/// least line that can fire, until none can.
+pub fn run_all(alloc: Global, h: &Hierarchy, controls: ValueList) -> Result<Ran, AllocError>
+    requires form { IsForm h.now }
+    requires controls { AreControls h.now controls }
+    ensures allowed { IfOk result (λ ran. after (program h.now) controls ran.trace ≡ Some ran.state) }
+    ensures rest { IfOk result (λ ran. IsAtRest (program h.now) ran.state) }
+{
+    let steps = steps_of(alloc, h)?;
+    let steps = steps.as_slice();
+    let leads = leads_of(alloc, steps)?;
+    let mut noted = all_noted(alloc, steps)?;
+    let mut state = first_state(alloc, h, controls.as_slice())?;
+    let mut trace = Vec::new(alloc);
+    for _ in 0..u64::MAX {
+        let Some(at) = next_step(steps, &state, &mut noted) else {
+            let trace = List::from_vec(trace);
+            return Ok(Ran { trace, state });
+        };
+        let step = &steps[at];
+        state.fire(alloc, step)?;
+        trace.push(Firing {
+            frame: 0,
+            node: step.line,
+            choice: None,
+        })?;
+        note_takers(&leads, step.line, &mut noted)?;
+    }
+    unreachable!()
 }
