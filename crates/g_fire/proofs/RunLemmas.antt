@@ -103,8 +103,8 @@ two_i32 f (x ∷ y ∷ []) two h =
     (x, y, refl, arithmetic_at_i32 f (out-Value x) (out-Value y) (and_left (is_i32 x) (is_i32 y && true) h) (and_left (is_i32 y) true (and_right (is_i32 x) (is_i32 y && true) h)))
 two_i32 f (x ∷ y ∷ z ∷ vs) two h = absurd (three (length vs) two)
   where
-    three : (n : ℕ) → (n + 1 + 1 + 1 == 2) ≡ true → ⊥
-    three n e = omega (arith, eqb-true (n + 1 + 1 + 1) 2 e)
+    three : (n : ℕ) → (suc (suc (suc n)) == 2) ≡ true → ⊥
+    three n e = omega (arith, eqb-true (suc (suc (suc n))) 2 e)
 
 sums_i32 : (op : Primitive) (vs : List Value) → is_sum op ≡ true → (length vs == 2) ≡ true → list_all is_i32 vs ≡ true → list_all is_i32 (outputs_of op vs) ≡ true
 sums_i32 Add vs sum two h = let t = two_i32 plus vs two h in subst (λ xs. list_all is_i32 (outputs_of Add xs) ≡ true) (sym t.2) (both (is_i32 (arithmetic plus t.0 t.1)) true t.3 refl)

@@ -71,7 +71,7 @@ known_i32 t (e ∷ es) v all h = by (same_terminal t e.0) (known_i32 t es v (and
     by true rest g = subst (λ x. is_i32 x ≡ true) (some_is e.1 v g) (and_left (is_i32 e.1) (are_i32 es) all)
     by false rest g = rest g
 
-input_i32 : (s : FireState) → are_i32 s.values ≡ true → (i : Input) → is_wired i ≡ true → has_input s i ≡ true → is_i32 (value_of_input s i) ≡ true
+pub input_i32 : (s : FireState) → are_i32 s.values ≡ true → (i : Input) → is_wired i ≡ true → has_input s i ≡ true → is_i32 (value_of_input s i) ≡ true
 input_i32 s all Unwired w h = cc
 input_i32 s all Missing w h = cc
 input_i32 s all (From source) w h = by (value_at t s.values) (λ v g. known_i32 t s.values v all g) h

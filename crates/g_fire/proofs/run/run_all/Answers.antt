@@ -18,15 +18,6 @@ loop-init c =
       long = ap length c.new-trace.ensures.items;
     }
 
-pub fire-requires-can : goal.fire-requires-can
-fire-requires-can c = can_step c.loop.state c.as_slice-steps.result.now c.in-Some.at c.in-Some.ensures.some c.index-steps-at.result c.index-steps-at.is
-
-pub fire-requires-plain : goal.fire-requires-plain
-fire-requires-plain c =
-    let steps = c.as_slice-steps.result.now in
-    let plan = subst (IsPlan (program c.args.h.now)) (sym c.as_slice-steps.ensures) c.in_ok-steps.ensures in
-    plain_step steps c.in-Some.at c.index-steps-at.result plan.plain (is_step c.loop.state steps c.in-Some.at c.in-Some.ensures.some c.index-steps-at.result c.index-steps-at.is)
-
 pub loop-preserved : goal.loop-preserved
 loop-preserved c =
     let p = program c.args.h.now in
