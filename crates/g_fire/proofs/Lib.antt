@@ -1,4 +1,11 @@
 pub mod MapLemmas
+pub mod NameLemmas
+pub mod WireLemmas
+pub mod SumLemmas
+pub mod StepLemmas
+pub mod Bridge
+pub mod PlanLemmas
+pub mod RunLemmas
 pub mod Compute
 pub mod Words
 pub mod Rows

@@ -1,6 +1,6 @@
 -- Short words for programs and runs as data, on which the definitions compute.
 use Rattle.std.specs.Prelude.{◌≡◌, ℕ, false, List, [], ◌∷◌, ◌++◌, Option, Some, None, ℤ, pos, codes}
-use Rattle.std.proofs.Common.{ap, sym, ◌∙◌}
+use Rattle.std.proofs.Common.{ap, ◌∙◌}
 use Rattle.std.specs.Fmt.{signed_decimal}
 use Rattle.g_types.specs.declared.rep.Rep.TheVariants.{I32}
 use Rattle.g_types.specs.declared.ty.Ty.{Ty}
@@ -8,13 +8,10 @@ use Rattle.g_types.specs.declared.ty.Ty.TheVariants as ty
 use Rattle.g_values.specs.declared.value.Value.{Value}
 use Rattle.g_values.specs.declared.value.Value.TheVariants as value
 use Rattle.g_values.specs.declared.primitive.Primitive.{Primitive}
-use Rattle.g_values.specs.declared.num.Num.{Num}
-use Rattle.g_values.specs.declared.value.Value.TheOpen.{Value-F}
-use Rattle.g_values.specs.declared.value.Value.TheFolds.{fold-roll-Value}
 use Rattle.g_values.specs.Number.{num_of}
 use Rattle.g_values.specs.Default.{default}
-use Rattle.g_values.specs.Text.{text, text_step}
 use Rattle.g_values.proofs.Defaults.{default-Num}
+use Rattle.g_values.proofs.TextLemmas.{text-Num}
 use Rattle.g_diagram.specs.declared.hierarchy.Clones.TheVariants.{NonReentrant}
 use Rattle.g_diagram.specs.declared.hierarchy.System.TheVariants.{Same}
 use Rattle.g_diagram.specs.declared.hierarchy.Hierarchy.{Hierarchy}
@@ -88,9 +85,6 @@ print_after p (Some s) = print p s
 -- what is printed after a trace
 abbrev pub printed : Program → List Value → List (ℕ × ℕ) → List ℕ
 printed p controls trace = print_after p (after p controls (firings trace))
-
-pub text-Num : (x : Num) → text (value.Num x) ≡ signed_decimal x.n
-text-Num x = ap text (sym (value.rolls-Num x)) ∙ fold-roll-Value (List ℕ) text_step (Value-F.Num x)
 
 -- the line of an indicator that shows a number
 pub line-number : (name : List ℕ) (n : ℤ) (rest : List ℕ) → indicator_line name (number n) rest ≡ name ++ (codes " = " ++ (signed_decimal (num_of I32 n).n ++ (10 ∷ rest)))

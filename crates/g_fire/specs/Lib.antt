@@ -1,7 +1,10 @@
 pub mod Maps
 pub mod Wires
+pub mod Names
 pub mod Program
 pub mod State
 pub mod Fire
+pub mod Cells
 pub mod Run
+pub mod Plan
 pub mod Print

@@ -9,7 +9,7 @@ use Rattle.g_fire.specs.declared.maps.WireSource.{WireSource}
 abbrev pub source_of : List Port → (diagram : ℕ) → (name : List ℕ) → Option WireSource
 source_of [] d name = None
 source_of (p ∷ ps) d name =
-    if p.is_source && ((p.diagram == d) && same_wire p.wire (Some name)) then Some (record { line = p.line; operand = p.operand }) else source_of ps d name
+    if p.is_source && ((p.diagram == d) && same_wire (Some name) p.wire) then Some (record { line = p.line; operand = p.operand }) else source_of ps d name
 
 abbrev pub is_outside : Side → Bool
 is_outside Outside = true

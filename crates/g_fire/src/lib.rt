@@ -2,9 +2,15 @@
 #![tactic(auto)]
 
 mod firing;
+mod machine;
 mod maps;
+mod names;
+mod plan;
+mod run;
+mod start;
 mod state;
 
 pub use firing::{Firing, FrameNode, Trace};
 pub use maps::{Done, Terminal, Values, WireSource};
+pub use run::{Ran, run_all};
 pub use state::{Content, FireState, Fired, Frame};

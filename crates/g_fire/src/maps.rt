@@ -14,16 +14,16 @@ use std::marker::Model;
 /// The source of a wire: an operand, counted from 1, of a line.
 #[derive(Clone, Copy, Debug, PartialEq, Eq)]
 pub struct WireSource {
-    pub line: u32,
-    pub operand: u32,
+    pub line: u64,
+    pub operand: u64,
 }
 
 /// The source of a wire in a frame.
 #[derive(Clone, Copy, Debug, PartialEq, Eq, Hash)]
 pub struct Terminal {
     pub frame: u64,
-    pub line: u32,
-    pub operand: u32,
+    pub line: u64,
+    pub operand: u64,
 }
 
 /// The values that sources have, in the order in which they came.

@@ -1,0 +1,40 @@
+use Rattle.std.proofs.Common.{◌∷◌, ◌++◌, [], Some, length, ap, sym, subst, ◌∙◌, arith, length-append}
+use Rattle.g_fire.specs.Program.{program}
+use Rattle.g_fire.specs.State.{start}
+use Rattle.g_fire.specs.Run.{after, firing}
+use Rattle.g_fire.specs.Plan.{are_i32, IsPlan}
+use Rattle.g_fire.proofs.RunLemmas.{is_step, can_step, plain_step, goes_on, keeps_frames, keeps_i32, start_frames, start_i32}
+use Rattle.g_fire.proofs.Bridge.{rests}
+use Rattle.g_fire.proofs.run.run_all.Goals as goal
+
+pub loop-init : goal.loop-init
+loop-init c =
+    let p = program c.args.h.now in
+    let begins = c.in_ok-state.ensures ∙ ap (start p) c.as_slice.ensures.value in
+    record {
+      allowed = ap (after p c.args.controls) c.new-trace.ensures.items ∙ ap Some (sym begins);
+      frames = ap (λ s. s.frames) begins ∙ start_frames p c.in_ok-steps.steps c.in_ok-steps.ensures c.args.controls;
+      numbers = ap (λ s. are_i32 s.values) begins ∙ start_i32 p c.in_ok-steps.steps c.in_ok-steps.ensures c.args.controls c.requires.controls.numbers;
+      long = ap length c.new-trace.ensures.items;
+    }
+
+pub loop-preserved : goal.loop-preserved
+loop-preserved c =
+    let p = program c.args.h.now in
+    let s = c.loop.state in
+    let steps = c.as_slice-steps.result.now in
+    let st = c.index-steps-at.result in
+    let k = c.in-Some.at in
+    let can = c.in-Some.ensures.some in
+    let plan = subst (IsPlan p) (sym c.as_slice-steps.ensures) c.in_ok-steps.ensures in
+    let at = is_step s steps k can st c.index-steps-at.is in
+    let ok = can_step s steps k can st c.index-steps-at.is in
+    record {
+      allowed =
+          ap (after p c.args.controls) c.in_ok-push.ensures.items
+          ∙ goes_on p steps plan s c.loop.invariant.frames c.args.controls c.loop.trace.items c.loop.invariant.allowed k st at ok
+          ∙ ap Some (sym c.in_ok-fire.ensures);
+      frames = ap (λ x. x.frames) c.in_ok-fire.ensures ∙ keeps_frames s st ∙ c.loop.invariant.frames;
+      numbers = ap (λ x. are_i32 x.values) c.in_ok-fire.ensures ∙ keeps_i32 s st ok (plain_step steps k st plan.plain at) c.loop.invariant.numbers;
+      long = ap length c.in_ok-push.ensures.items ∙ omega (arith, length-append c.loop.trace.items (firing 0 st.line ∷ []), c.loop.invariant.long);
+    }

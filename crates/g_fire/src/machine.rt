@@ -1,0 +1,204 @@
+//! One firing of a node of frame 0.
+
+ghost use Rattle.std.specs.Prelude.{◌≡◌, ◌∷◌, ◌<◌, [], length, IsTrue, OnOk};
+ghost use Rattle.g_fire.specs.Cells.{with_cell};
+ghost use Rattle.g_fire.specs.State.{is_last};
+ghost use Rattle.g_types.specs.declared.rep.Rep.TheVariants as the_rep;
+ghost use Rattle.g_values.specs.declared.value.Value.TheVariants as value;
+ghost use Rattle.g_diagram.specs.Form.{is_sum};
+ghost use Rattle.g_operations.specs.Values.{outputs_of};
+
+use crate::firing::FrameNode;
+use crate::maps::Terminal;
+use crate::plan::{Input, Step, Work};
+use crate::state::{Content, FireState, Fired};
+use g_lists::List;
+use g_types::{Rep, Ty};
+use g_values::{Num, Primitive, Value, coerce};
+use std::alloc::{AllocError, Global};
+
+/// The sum, difference or product of two 32-bit numbers, wrapped.
+#[tactic(auto, using(crate::proofs::SumLemmas::arithmetic_i32))]
+fn sum_of(primitive: Primitive, left: Num, right: Num) -> Num
+    requires sum { IsTrue (is_sum primitive) }
+    requires left { left.rep ≡ the_rep.I32 }
+    requires right { right.rep ≡ the_rep.I32 }
+    ensures value { outputs_of primitive (value.Num left ∷ value.Num right ∷ []) ≡ value.Num result ∷ [] }
+    ensures rep { result.rep ≡ the_rep.I32 }
+{
+    match primitive {
+        Primitive::Add => Num::wrapped(Rep::I32, left.n + right.n),
+        Primitive::Sub => Num::wrapped(Rep::I32, left.n - right.n),
+        Primitive::Mul => Num::wrapped(Rep::I32, left.n * right.n),
+        _ => unreachable!(),
+    }
+}
+
+impl FireState {
+    ghost use Rattle.std.specs.Option.{option_copied};
+    ghost use Rattle.g_fire.specs.State.{is_done};
+    ghost use Rattle.g_fire.specs.Plan.{input_value, has_input, value_of_input, step_ready, step_can, is_i32};
+
+    fn input_value(&self, input: Input) -> Option<&Value>
+        ensures { option_copied result ≡ input_value self.now input }
+    {
+        match input {
+            Input::Unwired | Input::Missing => None,
+            Input::From(source) => self.values.get(Terminal {
+                frame: 0,
+                line: source.line,
+                operand: source.operand,
+            }),
+        }
+    }
+
+    fn has_input(&self, input: Input) -> bool
+        ensures { result ≡ has_input self.now input }
+    {
+        match input {
+            Input::Unwired => true,
+            Input::Missing | Input::From(_) => self.input_value(input).is_some(),
+        }
+    }
+
+    /// The number on a wire.
+    fn number_of(&self, input: Input) -> Num
+        requires { IsTrue (is_i32 (value_of_input self.now input)) }
+        ensures value { value.Num result ≡ value_of_input self.now input }
+        ensures rep { result.rep ≡ the_rep.I32 }
+    {
+        match self.input_value(input) {
+            Some(Value::Num(x)) => *x,
+            _ => unreachable!(),
+        }
+    }
+
+    /// Whether a node of frame 0 has no firing left.
+    pub(crate) fn was_done(&self, line: u64) -> bool
+        ensures { result ≡ is_done self.now 0 line }
+    {
+        let node = FrameNode {
+            frame: 0,
+            node: line,
+        };
+        self.done.get(node).iter().any(|fired| is_last(*fired))
+    }
+
+    fn is_ready(&self, step: &Step) -> bool
+        ensures { result ≡ step_ready self.now step.now }
+    {
+        if self.was_done(step.line) {
+            return false;
+        }
+        for input in step.inputs.as_slice() {
+            if !self.has_input(*input) {
+                return false;
+            }
+        }
+        true
+    }
+
+    /// Whether a node can fire.
+    pub(crate) fn can_fire(&self, step: &Step) -> bool
+        ensures { result ≡ step_can self.now step.now }
+    {
+        if !self.is_ready(step) {
+            return false;
+        }
+        match &step.work {
+            Work::Never => false,
+            Work::Give(_) | Work::Apply { .. } => true,
+            Work::Show(_) => self.objects.get(0).is_some(),
+        }
+    }
+}
+
+/// Sets a cell of the first panel, where there is such a cell.
+fn set_cell(alloc: Global, objects: &mut List<Content>, cell: u64, value: Value)
+    requires { 0 < length objects.old }
+    ensures { objects.new ≡ with_cell cell value objects.old }
+{
+    let Content::Panel(mut cells) = objects.replace(0, Content::Panel(List::new(alloc)));
+    let cell = cell as usize;
+    if cell < cells.len() {
+        cells.set(cell, value);
+    }
+    objects.set(0, Content::Panel(cells));
+}
+
+/// Whether it is the last firing of its node.
+fn is_last(fired: Fired) -> bool
+    ensures { result ≡ is_last fired }
+{
+    match fired {
+        Fired::Once => true,
+    }
+}
+
+impl FireState {
+    ghost use Rattle.std.specs.Prelude.{slice_get, true};
+    ghost use Rattle.g_fire.specs.Plan.{step_can, step_fired, step_plain, are_i32};
+    ghost use Rattle.g_fire.specs.Run.{firing};
+    ghost use Rattle.g_fire.specs.Fire.{gives, shows_in, applied, or_same, outputs_from};
+    ghost use Rattle.g_fire.specs.declared.state.Fired.TheVariants.{Once};
+
+    /// Fires a node that gives one value, at an operand of its line.
+    fn give(
+        &mut self,
+        alloc: Global,
+        line: u64,
+        operand: u64,
+        value: Value,
+    ) -> Result<(), AllocError>
+        ensures { OnOk result (self.new ≡ applied self.old (firing 0 line) (gives Once (outputs_from line operand (value ∷ [])))) }
+    {
+        let source = Terminal {
+            frame: 0,
+            line,
+            operand,
+        };
+        self.values.put(source, value)?;
+        self.end(alloc, line)
+    }
+
+    /// Notes that a node has fired.
+    fn end(&mut self, alloc: Global, line: u64) -> Result<(), AllocError>
+        ensures { OnOk result (self.new ≡ applied self.old (firing 0 line) (gives Once [])) }
+    {
+        let node = FrameNode {
+            frame: 0,
+            node: line,
+        };
+        self.done.add(alloc, node, Fired::Once)
+    }
+
+    /// Fires an indicator.
+    fn show(&mut self, alloc: Global, line: u64, value: Value) -> Result<(), AllocError>
+        requires { 0 < length self.old.objects }
+        ensures { OnOk result (self.new ≡ or_same self.old (firing 0 line) (shows_in 0 line value (slice_get self.old.objects 0))) }
+    {
+        set_cell(alloc, &mut self.objects, line.saturating_sub(1), value);
+        self.end(alloc, line)
+    }
+
+    /// Fires a node that can fire.
+    pub(crate) fn fire(&mut self, alloc: Global, step: &Step) -> Result<(), AllocError>
+        requires can { step_can self.old step.now ≡ true }
+        requires plain { IsTrue (step_plain step.now) }
+        requires numbers { IsTrue (are_i32 self.old.values) }
+        ensures { OnOk result (self.new ≡ step_fired self.old step.now) }
+    {
+        match (&step.work, step.inputs.as_slice()) {
+            (Work::Give(x), _) => self.give(alloc, step.line, 1, Value::Num(*x)),
+            (Work::Apply { primitive, first }, [left, right]) => {
+                let x = sum_of(*primitive, self.number_of(*left), self.number_of(*right));
+                self.give(alloc, step.line, *first, Value::Num(x))
+            }
+            (Work::Show(ty), [input]) => {
+                let x = self.number_of(*input);
+                self.show(alloc, step.line, coerce(Value::Num(x), ty))
+            }
+            _ => unreachable!(),
+        }
+    }
+}

@@ -1,0 +1,148 @@
+//! Whole runs.
+
+ghost use Rattle.std.specs.Prelude.{◌≡◌, false, Some, IfOk, IfSome, IfNone};
+ghost use Rattle.std.specs.List.{list_any};
+ghost use Rattle.g_diagram.specs.Form.{IsForm};
+ghost use Rattle.g_fire.specs.Plan.{step_can, CanAt, IsPlan, AreControls};
+ghost use Rattle.g_fire.specs.Program.{program};
+ghost use Rattle.g_fire.specs.Run.{after, IsAtRest};
+
+use crate::firing::{Firing, Trace};
+use crate::names::names_of;
+use crate::plan::{Input, Step, plan};
+use crate::start::first_state;
+use crate::state::FireState;
+use g_diagram::Hierarchy;
+use g_lists::List;
+use g_values::ValueList;
+use std::alloc::{AllocError, Global};
+use std::collections::BTreeSet;
+
+/// A wire, from the line of its source to a node that takes it, by its place.
+#[derive(Clone, Copy, Debug, PartialEq, Eq, PartialOrd, Ord)]
+struct Lead {
+    line: u64,
+    taker: usize,
+}
+
+/// All wires, by their sources' lines.
+fn leads_of(alloc: Global, steps: &[Step]) -> Result<Vec<Lead>, AllocError> {
+    let mut leads = Vec::new(alloc);
+    for taker in 0..steps.len() {
+        for input in steps[taker].inputs.as_slice() {
+            if let Input::From(source) = input {
+                let line = source.line;
+                leads.push(Lead { line, taker })?;
+            }
+        }
+    }
+    leads.sort()?;
+    Ok(leads)
+}
+
+/// Notes the nodes that take what a line gives as such that may fire now.
+fn note_takers(leads: &[Lead], line: u64, noted: &mut BTreeSet<usize>) -> Result<(), AllocError> {
+    let first = leads.partition_point(|lead| lead.line < line);
+    for at in first..leads.len() {
+        if leads[at].line != line {
+            break;
+        }
+        noted.insert(leads[at].taker)?;
+    }
+    Ok(())
+}
+
+/// The least node of those noted that can fire. Those before it are noted no more.
+fn noted_step(steps: &[Step], state: &FireState, noted: &mut BTreeSet<usize>) -> Option<usize>
+    ensures { IfSome result (CanAt state.now steps.now) }
+{
+    for _ in 0..noted.len() {
+        let at = noted.pop_first()?;
+        if let Some(step) = steps.get(at) {
+            if state.can_fire(step) {
+                return Some(at);
+            }
+        }
+    }
+    None
+}
+
+/// The least node that can fire.
+fn least_step(steps: &[Step], state: &FireState) -> Option<usize>
+    ensures some { IfSome result (CanAt state.now steps.now) }
+    ensures none { IfNone result (list_any (step_can state.now) steps.now ≡ false) }
+{
+    for at in 0..steps.len() {
+        if state.can_fire(&steps[at]) {
+            return Some(at);
+        }
+    }
+    None
+}
+
+fn next_step(steps: &[Step], state: &FireState, noted: &mut BTreeSet<usize>) -> Option<usize>
+    ensures some { IfSome result (CanAt state.now steps.now) }
+    ensures none { IfNone result (list_any (step_can state.now) steps.now ≡ false) }
+{
+    match noted_step(steps, state, noted) {
+        Some(at) => Some(at),
+        None => least_step(steps, state),
+    }
+}
+
+/// The nodes of the VI that runs.
+fn steps_of(alloc: Global, h: &Hierarchy) -> Result<List<Step>, AllocError>
+    requires { IsForm h.now }
+    ensures { IfOk result (λ steps. IsPlan (program h.now) steps) }
+{
+    let vi = &h.vis.as_slice()[0];
+    let names = names_of(alloc, vi)?;
+    plan(alloc, &names, vi)
+}
+
+/// All nodes, noted.
+fn all_noted(alloc: Global, steps: &[Step]) -> Result<BTreeSet<usize>, AllocError> {
+    let mut noted = BTreeSet::new(alloc);
+    for at in 0..steps.len() {
+        noted.insert(at)?;
+    }
+    Ok(noted)
+}
+
+/// A run: what fired, and the state that it ended in.
+#[derive(Drop)]
+pub struct Ran {
+    pub trace: Trace,
+    pub state: FireState,
+}
+
+/// Runs a hierarchy of one VI of 32-bit sums on the values of its controls: fires the node of the
+/// least line that can fire, until none can.
+pub fn run_all(alloc: Global, h: &Hierarchy, controls: ValueList) -> Result<Ran, AllocError>
+    requires form { IsForm h.now }
+    requires controls { AreControls h.now controls }
+    ensures allowed { IfOk result (λ ran. after (program h.now) controls ran.trace ≡ Some ran.state) }
+    ensures rest { IfOk result (λ ran. IsAtRest (program h.now) ran.state) }
+{
+    let steps = steps_of(alloc, h)?;
+    let steps = steps.as_slice();
+    let leads = leads_of(alloc, steps)?;
+    let mut noted = all_noted(alloc, steps)?;
+    let mut state = first_state(alloc, h, controls.as_slice())?;
+    let mut trace = Vec::new(alloc);
+    for _ in 0..u64::MAX {
+        let Some(at) = next_step(steps, &state, &mut noted) else {
+            let trace = List::from_vec(trace);
+            return Ok(Ran { trace, state });
+        };
+        let step = &steps[at];
+        state.fire(alloc, step)?;
+        trace.push(Firing {
+            frame: 0,
+            node: step.line,
+            choice: None,
+        })?;
+        note_takers(&leads, step.line, &mut noted)?;
+    }
+    unreachable!()
+}
