@@ -263,7 +263,7 @@ rewritten ts h has good =
       tokens = token.Word (codes "glisting") ∷ token.Number (pos 1) ∷ token.Eol ∷ new.tokens;
       has = (tt, token.Number (pos 1) ∷ token.Eol ∷ new.tokens, (refl, refl), (1, token.Eol ∷ new.tokens, (refl, refl), (tt, new.tokens, (refl, refl), (is, [], new.has, (has.3.3.3.3.0, refl)))));
       written = subst (λ (x : Hierarchy). Full (text.text_of x) (token.Word (codes "glisting") ∷ token.Number (pos 1) ∷ token.Eol ∷ new.tokens)) has.3.3.3.3.0
-      (a_line 0 (codes "glisting") (record { letter = refl; all = refl; short = omega arith }) (record { bound = refl; inside = space plain }));
+          (a_line 0 (codes "glisting") (record { letter = refl; all = refl; short = omega arith }) (record { bound = refl; inside = space plain }));
     }
 
 pub reads_back : (bytes : List ℕ) (h : Hierarchy) → IsBytes bytes → IsListingOf h bytes → IsListingOf h (text.text_of h)

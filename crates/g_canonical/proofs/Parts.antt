@@ -69,17 +69,21 @@ pub record Goes {B : Type 0} (Q : B → State) (R : State) (g : Grammar Token B)
   pub goes : (ts : List Token) (b : B) (rest : List Token) → Has g ts b rest → AreGood ts → (bytes : List ℕ) → Q b bytes rest → Went R front (s b bytes) ts
 
 pub gives : {B : Type 0} {Q : B → State} {x : B} {front : List ℕ → List ℕ} {s : B → List ℕ → List ℕ} → ((bytes : List ℕ) → front bytes ≡ s x bytes) → Goes Q (Q x) (give x) front s
-gives {B} {Q} {x} {front} {s} e = record { goes = λ ts b rest h good bytes q. record {
-  written = bytes;
-  stands = subst (λ l. Q x bytes l) (sym h.1) (subst (λ y. Q y bytes rest) (sym h.0) q);
-  is = e bytes ∙ ap (λ y. s y bytes) h.0;
-} }
+gives {B} {Q} {x} {front} {s} e = record {
+  goes = λ ts b rest h good bytes q. record {
+    written = bytes;
+    stands = subst (λ l. Q x bytes l) (sym h.1) (subst (λ y. Q y bytes rest) (sym h.0) q);
+    is = e bytes ∙ ap (λ y. s y bytes) h.0;
+  };
+}
 
 pub binds : {A B : Type 0} {M : A → State} {Q : B → State} {R : State} {g : Grammar Token A} {f : A → Grammar Token B} {r : A → List ℕ → List ℕ} {front : List ℕ → List ℕ} {s : B → List ℕ → List ℕ}
     → Says M R g r → ((a : A) → Goes Q (M a) (f a) (λ w. front (r a w)) s) → Goes Q R (bind g f) front s
-binds {A} {B} {M} {Q} {R} {g} {f} {r} {front} {s} one next = record { goes = λ ts b rest h good bytes q.
-  let w = (next h.0).goes h.1 b rest h.3 (after g ts h.0 h.1 h.2 good) bytes q in
-  record { written = r h.0 w.written; stands = one.says ts h.0 h.1 h.2 good w.written w.stands; is = w.is } }
+binds {A} {B} {M} {Q} {R} {g} {f} {r} {front} {s} one next = record {
+  goes = λ ts b rest h good bytes q.
+      let w = (next h.0).goes h.1 b rest h.3 (after g ts h.0 h.1 h.2 good) bytes q in
+      record { written = r h.0 w.written; stands = one.says ts h.0 h.1 h.2 good w.written w.stands; is = w.is };
+}
 
 pub closes : {B : Type 0} {Q : B → State} {R : State} {g : Grammar Token B} {s : B → List ℕ → List ℕ} → Goes Q R g (λ w. w) s → Says Q R g s
 closes {B} {Q} {R} {g} {s} x = record { says = λ ts b rest h good bytes q. let w = x.goes ts b rest h good bytes q in subst (λ l. R l ts) w.is w.stands }
@@ -87,10 +91,12 @@ closes {B} {Q} {R} {g} {s} x = record { says = λ ts b rest h good bytes q. let 
 -- the same where the first of two goes on after others too
 pub binds_on : {A B : Type 0} {M : A → State} {Q : B → State} {R : State} {g : Grammar Token A} {f : A → Grammar Token B} {before : List ℕ → List ℕ} {r : A → List ℕ → List ℕ} {s : B → List ℕ → List ℕ} (front : List ℕ → List ℕ)
     → Goes M R g before r → ((a : A) → Goes Q (M a) (f a) (λ w. front (r a w)) s) → Goes Q R (bind g f) (λ w. front (before w)) s
-binds_on {A} {B} {M} {Q} {R} {g} {f} {before} {r} {s} front one next = record { goes = λ ts b rest h good bytes q.
-  let w = (next h.0).goes h.1 b rest h.3 (after g ts h.0 h.1 h.2 good) bytes q in
-  let u = one.goes ts h.0 h.1 h.2 good w.written w.stands in
-  record { written = u.written; stands = u.stands; is = ap front u.is ∙ w.is } }
+binds_on {A} {B} {M} {Q} {R} {g} {f} {before} {r} {s} front one next = record {
+  goes = λ ts b rest h good bytes q.
+      let w = (next h.0).goes h.1 b rest h.3 (after g ts h.0 h.1 h.2 good) bytes q in
+      let u = one.goes ts h.0 h.1 h.2 good w.written w.stands in
+      record { written = u.written; stands = u.stands; is = ap front u.is ∙ w.is };
+}
 
 -- the same in other words
 pub alike : {A : Type 0} {Q : A → State} {R : State} {g : Grammar Token A} {r s : A → List ℕ → List ℕ} → Says Q R g r → ((a : A) (bytes : List ℕ) → r a bytes ≡ s a bytes) → Says Q R g s
@@ -110,11 +116,13 @@ abbrev pub Stands : {A : Type 0} → (A → State) → State → (Token → Opti
 Stands {A} Q R p s = (t : Token) (a : A) → p t ≡ Some a → IsGood t → (bytes : List ℕ) (ts : List Token) → Q a bytes ts → R (s a bytes) (t ∷ ts)
 
 pub one : {A : Type 0} {Q : A → State} {R : State} (p : Token → Option A) {s : A → List ℕ → List ℕ} → Stands Q R p s → Says Q R (take p) s
-one {A} {Q} {R} p {s} st = record { says = λ ts a rest h good bytes q.
-  let f = first_is p ts a h.0 in
-  let is : ts ≡ f.0 ∷ rest = f.1 ∙ ap (λ l. f.0 ∷ l) h.1 in
-  let g : AreGood (f.0 ∷ rest) = subst AreGood is good in
-  subst (λ l. R (s a bytes) l) (sym is) (st f.0 a f.2 g.0 bytes rest q) }
+one {A} {Q} {R} p {s} st = record {
+  says = λ ts a rest h good bytes q.
+      let f = first_is p ts a h.0 in
+      let is : ts ≡ f.0 ∷ rest = f.1 ∙ ap (λ l. f.0 ∷ l) h.1 in
+      let g : AreGood (f.0 ∷ rest) = subst AreGood is good in
+      subst (λ l. R (s a bytes) l) (sym is) (st f.0 a f.2 g.0 bytes rest q);
+}
 
 abbrev pub Rested : {A : Type 0} → A → State
 Rested a = Rest

@@ -12,5 +12,4 @@ pub fn canonical_laws()
     ensures reads_back { (bytes : List ℕ) (h : Hierarchy) → IsBytes bytes → IsListingOf h bytes → IsListingOf h (text_of h) }
     ensures alone { (bytes : List ℕ) (h g : Hierarchy) → IsBytes bytes → IsListingOf h bytes → IsListingOf g (text_of h) → g ≡ h }
     ensures differ { (bytes others : List ℕ) (h g : Hierarchy) → IsBytes bytes → IsListingOf h bytes → IsBytes others → IsListingOf g others → text_of g ≡ text_of h → g ≡ h }
-{
-}
+{}

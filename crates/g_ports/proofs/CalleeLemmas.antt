@@ -35,4 +35,4 @@ pub added : (old new : Table) (bs : List ℕ) (flags : Vec Bool Global) (control
 added old new bs flags controls e updates absent name =
     ap (option_map (λ v. v.items)) (updates name)
     ∙ step (bytes_eq bs name) (found old name) flags controls e
-        (λ same. let P : List ℕ → Type 0 = λ cs. found old cs ≡ None in subst P ((bytes_eq-Decides bs name).0 same) (none_of (found old bs) absent))
+    (λ same. let P : List ℕ → Type 0 = λ cs. found old cs ≡ None in subst P ((bytes_eq-Decides bs name).0 same) (none_of (found old bs) absent))

@@ -31,23 +31,43 @@ pub struct Operand<'a> {
 pub fn source<'a>(side: Side, wire: &'a Wire) -> Operand<'a>
     ensures { seen_operand result ≡ spec.source (seen_side side) wire.now }
 {
-    Operand { is_source: true, side, is_free: false, wire: wire.as_ref() }
+    Operand {
+        is_source: true,
+        side,
+        is_free: false,
+        wire: wire.as_ref(),
+    }
 }
 
 pub fn free_source<'a>(side: Side, wire: &'a Wire) -> Operand<'a>
     ensures { seen_operand result ≡ spec.free_source (seen_side side) wire.now }
 {
-    Operand { is_source: true, side, is_free: true, wire: wire.as_ref() }
+    Operand {
+        is_source: true,
+        side,
+        is_free: true,
+        wire: wire.as_ref(),
+    }
 }
 
 pub fn consumer<'a>(side: Side, wire: &'a Wire) -> Operand<'a>
     ensures { seen_operand result ≡ spec.consumer (seen_side side) wire.now }
 {
-    Operand { is_source: false, side, is_free: false, wire: wire.as_ref() }
+    Operand {
+        is_source: false,
+        side,
+        is_free: false,
+        wire: wire.as_ref(),
+    }
 }
 
 pub fn free_consumer<'a>(side: Side, wire: &'a Wire) -> Operand<'a>
     ensures { seen_operand result ≡ spec.free_consumer (seen_side side) wire.now }
 {
-    Operand { is_source: false, side, is_free: true, wire: wire.as_ref() }
+    Operand {
+        is_source: false,
+        side,
+        is_free: true,
+        wire: wire.as_ref(),
+    }
 }

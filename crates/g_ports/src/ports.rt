@@ -50,7 +50,11 @@ fn call_input<'a>(required: Option<&Vec<bool>>, input: usize, wire: &'a Wire) ->
     }
 }
 
-fn push_inputs<'a>(required: Option<&Vec<bool>>, operands: &mut Vec<Operand<'a>>, inputs: &'a [Wire]) -> Result<(), AllocError>
+fn push_inputs<'a>(
+    required: Option<&Vec<bool>>,
+    operands: &mut Vec<Operand<'a>>,
+    inputs: &'a [Wire],
+) -> Result<(), AllocError>
     ensures { OnOk result (map seen_operand operands.new.items ≡ map seen_operand operands.old.items ++ spec.call_inputs (is_free_by (option_map (λ v. v.items) (option_copied required.entry))) 0 inputs.now) }
 {
     for input in 0..inputs.len() {
@@ -60,7 +64,13 @@ fn push_inputs<'a>(required: Option<&Vec<bool>>, operands: &mut Vec<Operand<'a>>
 }
 
 /// The inputs and outputs of a call. An input is free where its control isn't required.
-fn call_operands<'a>(alloc: Global, callees: &Callees<'_>, vi: &Name, inputs: &'a [Wire], outputs: &'a [Wire]) -> Result<Vec<Operand<'a>>, AllocError>
+fn call_operands<'a>(
+    alloc: Global,
+    callees: &Callees<'_>,
+    vi: &Name,
+    inputs: &'a [Wire],
+    outputs: &'a [Wire],
+) -> Result<Vec<Operand<'a>>, AllocError>
     ensures { IfOk result (λ operands. map seen_operand operands.items ≡ spec.call_inputs (freedom_by callees.now vi.now) 0 inputs.now ++ map (spec.source spec.Outside) outputs.now) }
 {
     let mut operands = Vec::new(alloc);
@@ -71,7 +81,11 @@ fn call_operands<'a>(alloc: Global, callees: &Callees<'_>, vi: &Name, inputs: &'
 
 /// The ports of a line that isn't at a border.
 #[tactic(auto, using(crate::proofs::Lines::line_ports))]
-fn push_plain<'a>(ports: &mut Vec<Port<'a>>, entry: &Entry<'_>, operands: &[Operand<'a>]) -> Result<(), AllocError>
+fn push_plain<'a>(
+    ports: &mut Vec<Port<'a>>,
+    entry: &Entry<'_>,
+    operands: &[Operand<'a>],
+) -> Result<(), AllocError>
     ensures { OnOk result (map seen ports.new.items ≡ map seen ports.old.items ++ ports_in (spec.plain_line (table.seen entry.now) (map seen_operand operands.now) ∷ [])) }
 {
     let sides = Sides {
@@ -85,7 +99,14 @@ fn push_plain<'a>(ports: &mut Vec<Port<'a>>, entry: &Entry<'_>, operands: &[Oper
 
 /// The ports of a loop: of its first line, and of its border.
 #[tactic(auto, using(crate::proofs::Lines::one_line))]
-fn push_loop<'a>(alloc: Global, ports: &mut Vec<Port<'a>>, entry: &Entry<'_>, header: &[Operand<'a>], lines: &'a [Tunnel], body: u32) -> Result<(), AllocError>
+fn push_loop<'a>(
+    alloc: Global,
+    ports: &mut Vec<Port<'a>>,
+    entry: &Entry<'_>,
+    header: &[Operand<'a>],
+    lines: &'a [Tunnel],
+    body: u32,
+) -> Result<(), AllocError>
     ensures { OnOk result (map seen ports.new.items ≡ map seen ports.old.items
         ++ ports_in (spec.header_line (table.seen entry.now) body (map seen_operand header.now) ∷ spec.border_lines (table.seen entry.now) (body ∷ []) [] spec.border (entry.now.line + 1) lines.now)) }
 {
@@ -97,7 +118,16 @@ fn push_loop<'a>(alloc: Global, ports: &mut Vec<Port<'a>>, entry: &Entry<'_>, he
         before: &[],
     };
     push_line(ports, &sides, entry.line, header)?;
-    push_border(alloc, ports, entry, &inside, &[], false, next(entry.line)?, lines)
+    push_border(
+        alloc,
+        ports,
+        entry,
+        &inside,
+        &[],
+        false,
+        next(entry.line)?,
+        lines,
+    )
 }
 
 /// The diagrams of the branches of a case.
@@ -113,7 +143,12 @@ fn bodies_of(alloc: Global, arms: &[Arm<'_>]) -> Result<Vec<u32>, AllocError>
 
 /// The ports of a `give` line.
 #[tactic(auto, using(crate::proofs::Lines::line_ports))]
-fn push_give<'a>(alloc: Global, ports: &mut Vec<Port<'a>>, entry: &Entry<'_>, arm: &Arm<'a>) -> Result<(), AllocError>
+fn push_give<'a>(
+    alloc: Global,
+    ports: &mut Vec<Port<'a>>,
+    entry: &Entry<'_>,
+    arm: &Arm<'a>,
+) -> Result<(), AllocError>
     ensures { OnOk result (map seen ports.new.items ≡ map seen ports.old.items ++ ports_in (spec.give_line (table.seen entry.now) (table.seen_arm arm.now) ∷ [])) }
 {
     let inside = [arm.body];
@@ -127,7 +162,12 @@ fn push_give<'a>(alloc: Global, ports: &mut Vec<Port<'a>>, entry: &Entry<'_>, ar
     push_line(ports, &sides, next(arm.body)?, operands.as_slice())
 }
 
-fn push_gives<'a>(alloc: Global, ports: &mut Vec<Port<'a>>, entry: &Entry<'_>, arms: &[Arm<'a>]) -> Result<(), AllocError>
+fn push_gives<'a>(
+    alloc: Global,
+    ports: &mut Vec<Port<'a>>,
+    entry: &Entry<'_>,
+    arms: &[Arm<'a>],
+) -> Result<(), AllocError>
     ensures { OnOk result (map seen ports.new.items ≡ map seen ports.old.items ++ ports_in (map (spec.give_line (table.seen entry.now)) (map table.seen_arm arms.now))) }
 {
     for arm in arms {
@@ -137,16 +177,36 @@ fn push_gives<'a>(alloc: Global, ports: &mut Vec<Port<'a>>, entry: &Entry<'_>, a
 }
 
 /// The ports of a frame's lines, after the diagram of the frame before, if there is one.
-fn push_part<'a>(alloc: Global, ports: &mut Vec<Port<'a>>, entry: &Entry<'_>, before: &[u32], part: &Part<'a>) -> Result<(), AllocError>
+fn push_part<'a>(
+    alloc: Global,
+    ports: &mut Vec<Port<'a>>,
+    entry: &Entry<'_>,
+    before: &[u32],
+    part: &Part<'a>,
+) -> Result<(), AllocError>
     ensures { OnOk result (map seen ports.new.items ≡ map seen ports.old.items
         ++ ports_in (spec.border_lines (table.seen entry.now) (part.now.body ∷ []) before.now spec.border (part.now.body + 1) part.now.lines.now)) }
 {
-    push_border(alloc, ports, entry, &[part.body], before, false, next(part.body)?, part.lines)
+    push_border(
+        alloc,
+        ports,
+        entry,
+        &[part.body],
+        before,
+        false,
+        next(part.body)?,
+        part.lines,
+    )
 }
 
 /// The ports of a sequence.
 #[tactic(auto, using(crate::proofs::Lines::ports_append))]
-fn push_parts<'a>(alloc: Global, ports: &mut Vec<Port<'a>>, entry: &Entry<'_>, parts: &[Part<'a>]) -> Result<(), AllocError>
+fn push_parts<'a>(
+    alloc: Global,
+    ports: &mut Vec<Port<'a>>,
+    entry: &Entry<'_>,
+    parts: &[Part<'a>],
+) -> Result<(), AllocError>
     ensures { OnOk result (map seen ports.new.items ≡ map seen ports.old.items ++ ports_in (spec.parts_lines (table.seen entry.now) [] (map table.seen_part parts.now))) }
 {
     let mut before: Vec<u32> = Vec::new(alloc);
@@ -157,19 +217,31 @@ fn push_parts<'a>(alloc: Global, ports: &mut Vec<Port<'a>>, entry: &Entry<'_>, p
     Ok(())
 }
 
-fn push_source<'a>(ports: &mut Vec<Port<'a>>, entry: &Entry<'_>, wire: &'a Wire) -> Result<(), AllocError>
+fn push_source<'a>(
+    ports: &mut Vec<Port<'a>>,
+    entry: &Entry<'_>,
+    wire: &'a Wire,
+) -> Result<(), AllocError>
     ensures { OnOk result (map seen ports.new.items ≡ map seen ports.old.items ++ ports_in (spec.plain_line (table.seen entry.now) (spec.source spec.Outside wire.now ∷ []) ∷ [])) }
 {
     push_plain(ports, entry, &[source(Side::Outside, wire)])
 }
 
-fn push_consumer<'a>(ports: &mut Vec<Port<'a>>, entry: &Entry<'_>, wire: &'a Wire) -> Result<(), AllocError>
+fn push_consumer<'a>(
+    ports: &mut Vec<Port<'a>>,
+    entry: &Entry<'_>,
+    wire: &'a Wire,
+) -> Result<(), AllocError>
     ensures { OnOk result (map seen ports.new.items ≡ map seen ports.old.items ++ ports_in (spec.plain_line (table.seen entry.now) (spec.consumer spec.Outside wire.now ∷ []) ∷ [])) }
 {
     push_plain(ports, entry, &[consumer(Side::Outside, wire)])
 }
 
-fn push_free_consumer<'a>(ports: &mut Vec<Port<'a>>, entry: &Entry<'_>, wire: &'a Wire) -> Result<(), AllocError>
+fn push_free_consumer<'a>(
+    ports: &mut Vec<Port<'a>>,
+    entry: &Entry<'_>,
+    wire: &'a Wire,
+) -> Result<(), AllocError>
     ensures { OnOk result (map seen ports.new.items ≡ map seen ports.old.items ++ ports_in (spec.plain_line (table.seen entry.now) (spec.free_consumer spec.Outside wire.now ∷ []) ∷ [])) }
 {
     push_plain(ports, entry, &[free_consumer(Side::Outside, wire)])
@@ -177,59 +249,125 @@ fn push_free_consumer<'a>(ports: &mut Vec<Port<'a>>, entry: &Entry<'_>, wire: &'
 
 /// The border lines and `give` lines of a case.
 #[tactic(auto, using(crate::proofs::Lines::ports_append))]
-fn push_case<'a>(alloc: Global, ports: &mut Vec<Port<'a>>, entry: &Entry<'_>, lines: &'a [Tunnel], arms: &[Arm<'a>]) -> Result<(), AllocError>
+fn push_case<'a>(
+    alloc: Global,
+    ports: &mut Vec<Port<'a>>,
+    entry: &Entry<'_>,
+    lines: &'a [Tunnel],
+    arms: &[Arm<'a>],
+) -> Result<(), AllocError>
     ensures { OnOk result (map seen ports.new.items ≡ map seen ports.old.items ++ ports_in (
         spec.border_lines (table.seen entry.now) (map (λ a. a.body) (map table.seen_arm arms.now)) [] spec.case_border (entry.now.line + 1) lines.now
         ++ map (spec.give_line (table.seen entry.now)) (map table.seen_arm arms.now))) }
 {
     let bodies = bodies_of(alloc, arms)?;
-    push_border(alloc, ports, entry, bodies.as_slice(), &[], true, next(entry.line)?, lines)?;
+    push_border(
+        alloc,
+        ports,
+        entry,
+        bodies.as_slice(),
+        &[],
+        true,
+        next(entry.line)?,
+        lines,
+    )?;
     push_gives(alloc, ports, entry, arms)?;
     Ok(())
 }
 
 /// The ports of the lines of a node.
 #[tactic(auto, using(crate::proofs::Lines::one_line))]
-fn push_entry<'a>(alloc: Global, ports: &mut Vec<Port<'a>>, callees: &Callees<'_>, entry: &Entry<'a>) -> Result<(), AllocError>
+fn push_entry<'a>(
+    alloc: Global,
+    ports: &mut Vec<Port<'a>>,
+    callees: &Callees<'_>,
+    entry: &Entry<'a>,
+) -> Result<(), AllocError>
     ensures { OnOk result (map seen ports.new.items ≡ map seen ports.old.items ++ ports_in (spec.kind_lines (freedom_by callees.now) (table.seen entry.now) (table.seen_kind entry.now.kind))) }
 {
     match &entry.kind {
         Kind::Const { out, .. } => push_source(ports, entry, *out),
-        Kind::Apply { inputs, outputs, .. } => {
+        Kind::Apply {
+            inputs,
+            outputs,
+            ..
+        } => {
             let operands = in_and_out(alloc, *inputs, *outputs)?;
             push_plain(ports, entry, operands.as_slice())
         }
         Kind::Shows { input, .. } => push_free_consumer(ports, entry, *input),
-        Kind::Shared { inputs, outputs, .. } => {
+        Kind::Shared {
+            inputs,
+            outputs,
+            ..
+        } => {
             let operands = in_and_out(alloc, *inputs, *outputs)?;
             push_plain(ports, entry, operands.as_slice())
         }
         Kind::Obtain { out, .. } => push_source(ports, entry, *out),
         Kind::Read { out, .. } => push_source(ports, entry, *out),
         Kind::Write { input, .. } => push_consumer(ports, entry, *input),
-        Kind::Call { vi, inputs, outputs } => {
+        Kind::Call {
+            vi,
+            inputs,
+            outputs,
+        } => {
             let operands = call_operands(alloc, callees, *vi, *inputs, *outputs)?;
             push_plain(ports, entry, operands.as_slice())
         }
-        Kind::For { count, iteration, lines, body } => {
-            let header = [free_consumer(Side::Outside, *count), source(Side::Inside, *iteration)];
+        Kind::For {
+            count,
+            iteration,
+            lines,
+            body,
+        } => {
+            let header = [
+                free_consumer(Side::Outside, *count),
+                source(Side::Inside, *iteration),
+            ];
             push_loop(alloc, ports, entry, &header, *lines, *body)
         }
-        Kind::While { stop, iteration, lines, body } => {
-            let header = [consumer(Side::Inside, *stop), source(Side::Inside, *iteration)];
+        Kind::While {
+            stop,
+            iteration,
+            lines,
+            body,
+        } => {
+            let header = [
+                consumer(Side::Inside, *stop),
+                source(Side::Inside, *iteration),
+            ];
             push_loop(alloc, ports, entry, &header, *lines, *body)
         }
-        Kind::Case { selector, lines, arms } => {
+        Kind::Case {
+            selector,
+            lines,
+            arms,
+        } => {
             push_consumer(ports, entry, *selector)?;
             push_case(alloc, ports, entry, *lines, arms.as_slice())
         }
         Kind::Sequence { parts } => push_parts(alloc, ports, entry, parts.as_slice()),
-        Kind::InPlace { lines, body, .. } => push_border(alloc, ports, entry, &[*body], &[], false, next(entry.line)?, *lines),
+        Kind::InPlace { lines, body, .. } => push_border(
+            alloc,
+            ports,
+            entry,
+            &[*body],
+            &[],
+            false,
+            next(entry.line)?,
+            *lines,
+        ),
     }
 }
 
 #[tactic(auto, using(crate::proofs::Lines::ports_append))]
-fn push_entries<'a>(alloc: Global, ports: &mut Vec<Port<'a>>, callees: &Callees<'_>, entries: &[Entry<'a>]) -> Result<(), AllocError>
+fn push_entries<'a>(
+    alloc: Global,
+    ports: &mut Vec<Port<'a>>,
+    callees: &Callees<'_>,
+    entries: &[Entry<'a>],
+) -> Result<(), AllocError>
     ensures { OnOk result (map seen ports.new.items ≡ map seen ports.old.items ++ ports_in (spec.entries_lines (freedom_by callees.now) (map table.seen entries.now))) }
 {
     for entry in entries {
@@ -253,7 +391,11 @@ fn push_control<'a>(ports: &mut Vec<Port<'a>>, line: u32, out: &'a Wire) -> Resu
     push_line(ports, &sides, line, &[source(Side::Inside, out)])
 }
 
-fn push_item<'a>(ports: &mut Vec<Port<'a>>, line: u32, item: &'a PanelItem) -> Result<(), AllocError>
+fn push_item<'a>(
+    ports: &mut Vec<Port<'a>>,
+    line: u32,
+    item: &'a PanelItem,
+) -> Result<(), AllocError>
     ensures { OnOk result (map seen ports.new.items ≡ map seen ports.old.items ++ ports_in (spec.control_lines line (item.now ∷ []))) }
 {
     match item {
@@ -278,7 +420,12 @@ fn push_panel<'a>(ports: &mut Vec<Port<'a>>, panel: &'a [PanelItem]) -> Result<(
 /// in each diagram there. Only want of memory refuses it, and a line or an operand with a number of 2^32
 /// or more, which no place can name, is told so too.
 #[tactic(auto, using(crate::proofs::Lines::ports_append))]
-pub fn ports_of<'a>(alloc: Global, callees: &Callees<'_>, vi: &'a Vi, entries: &[Entry<'a>]) -> Result<Vec<Port<'a>>, AllocError>
+pub fn ports_of<'a>(
+    alloc: Global,
+    callees: &Callees<'_>,
+    vi: &'a Vi,
+    entries: &[Entry<'a>],
+) -> Result<Vec<Port<'a>>, AllocError>
     ensures { IfOk result (λ ports. map seen ports.items ≡ ports_in (spec.control_lines 1 vi.now.panel ++ spec.entries_lines (freedom_by callees.now) (map table.seen entries.now))) }
 {
     let mut ports = Vec::new(alloc);

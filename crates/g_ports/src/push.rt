@@ -30,7 +30,14 @@ pub fn next(n: u32) -> Result<u32, AllocError>
     n.checked_add(1).ok_or(AllocError)
 }
 
-fn port_of<'a>(sides: &Sides, line: u32, operand: u32, form: &Operand<'a>, node: Option<u32>, diagram: u32) -> Port<'a>
+fn port_of<'a>(
+    sides: &Sides,
+    line: u32,
+    operand: u32,
+    form: &Operand<'a>,
+    node: Option<u32>,
+    diagram: u32,
+) -> Port<'a>
     ensures { seen result ≡ port (line_by sides.now line []) operand (seen_operand form.now) node diagram }
 {
     Port {
@@ -45,7 +52,14 @@ fn port_of<'a>(sides: &Sides, line: u32, operand: u32, form: &Operand<'a>, node:
 }
 
 /// An operand once in each of some diagrams.
-fn push_each<'a>(ports: &mut Vec<Port<'a>>, sides: &Sides, line: u32, operand: u32, form: &Operand<'a>, diagrams: &[u32]) -> Result<(), AllocError>
+fn push_each<'a>(
+    ports: &mut Vec<Port<'a>>,
+    sides: &Sides,
+    line: u32,
+    operand: u32,
+    form: &Operand<'a>,
+    diagrams: &[u32],
+) -> Result<(), AllocError>
     ensures { OnOk result (map seen ports.new.items ≡ map seen ports.old.items ++ map (port (line_by sides.now line []) operand (seen_operand form.now) None) diagrams.now) }
 {
     for diagram in diagrams {
@@ -54,7 +68,13 @@ fn push_each<'a>(ports: &mut Vec<Port<'a>>, sides: &Sides, line: u32, operand: u
     Ok(())
 }
 
-fn push_operand<'a>(ports: &mut Vec<Port<'a>>, sides: &Sides, line: u32, operand: u32, form: &Operand<'a>) -> Result<(), AllocError>
+fn push_operand<'a>(
+    ports: &mut Vec<Port<'a>>,
+    sides: &Sides,
+    line: u32,
+    operand: u32,
+    form: &Operand<'a>,
+) -> Result<(), AllocError>
     ensures { OnOk result (map seen ports.new.items ≡ map seen ports.old.items ++ ports_on (seen_side form.now.side) (line_by sides.now line []) operand (seen_operand form.now)) }
 {
     match form.side {
@@ -68,7 +88,12 @@ fn push_operand<'a>(ports: &mut Vec<Port<'a>>, sides: &Sides, line: u32, operand
 }
 
 /// The ports of one line.
-pub fn push_line<'a>(ports: &mut Vec<Port<'a>>, sides: &Sides, line: u32, operands: &[Operand<'a>]) -> Result<(), AllocError>
+pub fn push_line<'a>(
+    ports: &mut Vec<Port<'a>>,
+    sides: &Sides,
+    line: u32,
+    operands: &[Operand<'a>],
+) -> Result<(), AllocError>
     ensures { OnOk result (map seen ports.new.items ≡ map seen ports.old.items ++ ports_by sides.now line 1 (map seen_operand operands.now)) }
 {
     let mut operand = 1;
@@ -81,7 +106,16 @@ pub fn push_line<'a>(ports: &mut Vec<Port<'a>>, sides: &Sides, line: u32, operan
 
 /// The ports of the border lines of a node, from a line on.
 #[tactic(auto, using(crate::proofs::Lines::line_ports))]
-pub fn push_border<'a>(alloc: Global, ports: &mut Vec<Port<'a>>, entry: &Entry<'_>, inside: &[u32], before: &[u32], in_case: bool, first: u32, lines: &'a [Tunnel]) -> Result<(), AllocError>
+pub fn push_border<'a>(
+    alloc: Global,
+    ports: &mut Vec<Port<'a>>,
+    entry: &Entry<'_>,
+    inside: &[u32],
+    before: &[u32],
+    in_case: bool,
+    first: u32,
+    lines: &'a [Tunnel],
+) -> Result<(), AllocError>
     ensures { OnOk result (map seen ports.new.items ≡ map seen ports.old.items ++ ports_in (spec.border_lines (table.seen entry.now) inside.now before.now (form_of in_case) first lines.now)) }
 {
     let sides = Sides {

@@ -48,7 +48,9 @@ pub fn node_count(node: &Node) -> Result<u32, AllocError>
         Node::While { lines, body, .. } => loop_count(lines.as_slice(), body),
         Node::InPlace { lines, body } => loop_count(lines.as_slice(), body),
         Node::Case {
-            lines, branches, ..
+            lines,
+            branches,
+            ..
         } => {
             let header = add(2, number(lines.len())?)?;
             add(header, branches_count(branches.as_slice())?)

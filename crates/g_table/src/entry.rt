@@ -79,7 +79,9 @@ pub enum Kind<'a> {
         lines: &'a [Tunnel],
         arms: Vec<Arm<'a>>,
     },
-    Sequence { parts: Vec<Part<'a>> },
+    Sequence {
+        parts: Vec<Part<'a>>,
+    },
     /// With the line of its `end` too.
     InPlace {
         lines: &'a [Tunnel],

@@ -6,6 +6,4 @@ mod count;
 mod entry;
 mod table;
 
-
 pub use entry::{Arm, Entry, Kind, Part};
-

@@ -12,15 +12,28 @@ use g_diagram::{Branch, Diagram, Node, PanelItem, SequenceFrame, Tunnel, Vi};
 use g_lists::List;
 use std::alloc::{AllocError, Global};
 
-fn push<'a>(entries: &mut Vec<Entry<'a>>, line: u32, diagram: u32, kind: Kind<'a>) -> Result<(), AllocError>
+fn push<'a>(
+    entries: &mut Vec<Entry<'a>>,
+    line: u32,
+    diagram: u32,
+    kind: Kind<'a>,
+) -> Result<(), AllocError>
     ensures { OnOk result (map seen entries.new.items ≡ map seen entries.old.items ++ spec.entry line diagram (seen_kind kind.entry) ∷ []) }
 {
-    entries.push(Entry { line, diagram, kind })?;
+    entries.push(Entry {
+        line,
+        diagram,
+        kind,
+    })?;
     Ok(())
 }
 
 /// The branches of a case, from the line of its first `when`.
-fn arms_from<'a>(alloc: Global, first: u32, branches: &'a [Branch]) -> Result<Vec<Arm<'a>>, AllocError>
+fn arms_from<'a>(
+    alloc: Global,
+    first: u32,
+    branches: &'a [Branch],
+) -> Result<Vec<Arm<'a>>, AllocError>
     ensures { IfOk result (λ arms. map seen_arm arms.items ≡ spec.arms first (map branch_lines branches.now)) }
 {
     let mut arms = Vec::new(alloc);
@@ -37,7 +50,11 @@ fn arms_from<'a>(alloc: Global, first: u32, branches: &'a [Branch]) -> Result<Ve
 }
 
 /// The frames of a sequence, from the line of its first `frame`.
-fn parts_from<'a>(alloc: Global, first: u32, frames: &'a [SequenceFrame]) -> Result<Vec<Part<'a>>, AllocError>
+fn parts_from<'a>(
+    alloc: Global,
+    first: u32,
+    frames: &'a [SequenceFrame],
+) -> Result<Vec<Part<'a>>, AllocError>
     ensures { IfOk result (λ parts. map seen_part parts.items ≡ spec.parts first (map frame_lines frames.now)) }
 {
     let mut parts = Vec::new(alloc);
@@ -62,43 +79,156 @@ fn after_border(line: u32, lines: &[Tunnel]) -> Result<u32, AllocError>
 /// A node and all nodes inside it, from a line on.
 #[cycle(walk)]
 #[tactic(auto, using(g_diagram::proofs::LineLemmas::lines_by_variant))]
-fn push_node<'a>(alloc: Global, entries: &mut Vec<Entry<'a>>, node: &'a Node, line: u32, diagram: u32) -> Result<(), AllocError>
+fn push_node<'a>(
+    alloc: Global,
+    entries: &mut Vec<Entry<'a>>,
+    node: &'a Node,
+    line: u32,
+    diagram: u32,
+) -> Result<(), AllocError>
     ensures { OnOk result (map seen entries.new.items ≡ map seen entries.old.items ++ (lines_of node.now).entries line diagram) }
 {
     match node {
-        Node::Const { ty, literal, out } => push(entries, line, diagram, Kind::Const { ty, literal, out }),
-        Node::Apply { primitive, inputs, outputs } => {
+        Node::Const { ty, literal, out } => push(
+            entries,
+            line,
+            diagram,
+            Kind::Const { ty, literal, out },
+        ),
+        Node::Apply {
+            primitive,
+            inputs,
+            outputs,
+        } => {
             let (inputs, outputs) = (inputs.as_slice(), outputs.as_slice());
-            push(entries, line, diagram, Kind::Apply { primitive: *primitive, inputs, outputs })
+            push(
+                entries,
+                line,
+                diagram,
+                Kind::Apply {
+                    primitive: *primitive,
+                    inputs,
+                    outputs,
+                },
+            )
         }
-        Node::Shared { operation, inputs, outputs } => {
+        Node::Shared {
+            operation,
+            inputs,
+            outputs,
+        } => {
             let (inputs, outputs) = (inputs.as_slice(), outputs.as_slice());
-            push(entries, line, diagram, Kind::Shared { operation: *operation, inputs, outputs })
+            push(
+                entries,
+                line,
+                diagram,
+                Kind::Shared {
+                    operation: *operation,
+                    inputs,
+                    outputs,
+                },
+            )
         }
-        Node::Obtain { queue, size, item, out } => push(entries, line, diagram, Kind::Obtain { queue, size: *size, item, out }),
+        Node::Obtain {
+            queue,
+            size,
+            item,
+            out,
+        } => push(
+            entries,
+            line,
+            diagram,
+            Kind::Obtain {
+                queue,
+                size: *size,
+                item,
+                out,
+            },
+        ),
         Node::Read { object, out } => push(entries, line, diagram, Kind::Read { object, out }),
-        Node::Write { object, input } => push(entries, line, diagram, Kind::Write { object, input }),
-        Node::Call { vi, inputs, outputs } => {
+        Node::Write { object, input } => push(
+            entries,
+            line,
+            diagram,
+            Kind::Write { object, input },
+        ),
+        Node::Call {
+            vi,
+            inputs,
+            outputs,
+        } => {
             let (inputs, outputs) = (inputs.as_slice(), outputs.as_slice());
-            push(entries, line, diagram, Kind::Call { vi, inputs, outputs })
+            push(
+                entries,
+                line,
+                diagram,
+                Kind::Call {
+                    vi,
+                    inputs,
+                    outputs,
+                },
+            )
         }
-        Node::For { count, iteration, lines, body } => {
+        Node::For {
+            count,
+            iteration,
+            lines,
+            body,
+        } => {
             let lines = lines.as_slice();
             let first = after_border(line, lines)?;
-            push(entries, line, diagram, Kind::For { count, iteration, lines, body: first })?;
+            push(
+                entries,
+                line,
+                diagram,
+                Kind::For {
+                    count,
+                    iteration,
+                    lines,
+                    body: first,
+                },
+            )?;
             push_nodes(alloc, entries, body.nodes.as_slice(), add(first, 1)?, first)
         }
-        Node::While { stop, iteration, lines, body } => {
+        Node::While {
+            stop,
+            iteration,
+            lines,
+            body,
+        } => {
             let lines = lines.as_slice();
             let first = after_border(line, lines)?;
-            push(entries, line, diagram, Kind::While { stop, iteration, lines, body: first })?;
+            push(
+                entries,
+                line,
+                diagram,
+                Kind::While {
+                    stop,
+                    iteration,
+                    lines,
+                    body: first,
+                },
+            )?;
             push_nodes(alloc, entries, body.nodes.as_slice(), add(first, 1)?, first)
         }
-        Node::Case { selector, lines, branches } => {
+        Node::Case {
+            selector,
+            lines,
+            branches,
+        } => {
             let (lines, branches) = (lines.as_slice(), branches.as_slice());
             let first = after_border(line, lines)?;
             let arms = arms_from(alloc, first, branches)?;
-            push(entries, line, diagram, Kind::Case { selector, lines, arms })?;
+            push(
+                entries,
+                line,
+                diagram,
+                Kind::Case {
+                    selector,
+                    lines,
+                    arms,
+                },
+            )?;
             push_branches(alloc, entries, branches, first)
         }
         Node::Sequence { frames } => {
@@ -112,7 +242,16 @@ fn push_node<'a>(alloc: Global, entries: &mut Vec<Entry<'a>>, node: &'a Node, li
             let first = after_border(line, lines)?;
             let inside = add(first, 1)?;
             let finish = add(inside, nodes_count(body.nodes.as_slice())?)?;
-            push(entries, line, diagram, Kind::InPlace { lines, body: first, finish })?;
+            push(
+                entries,
+                line,
+                diagram,
+                Kind::InPlace {
+                    lines,
+                    body: first,
+                    finish,
+                },
+            )?;
             push_nodes(alloc, entries, body.nodes.as_slice(), inside, first)
         }
     }
@@ -120,7 +259,13 @@ fn push_node<'a>(alloc: Global, entries: &mut Vec<Entry<'a>>, node: &'a Node, li
 
 /// The nodes of a diagram, one after the other.
 #[cycle(walk)]
-fn push_nodes<'a>(alloc: Global, entries: &mut Vec<Entry<'a>>, nodes: &'a [Node], first: u32, diagram: u32) -> Result<(), AllocError>
+fn push_nodes<'a>(
+    alloc: Global,
+    entries: &mut Vec<Entry<'a>>,
+    nodes: &'a [Node],
+    first: u32,
+    diagram: u32,
+) -> Result<(), AllocError>
     ensures { OnOk result (map seen entries.new.items ≡ map seen entries.old.items ++ entries_in (map lines_of nodes.now) first diagram) }
 {
     let mut line = first;
@@ -134,7 +279,12 @@ fn push_nodes<'a>(alloc: Global, entries: &mut Vec<Entry<'a>>, nodes: &'a [Node]
 /// The nodes of the branches of a case, from the line of its first `when`.
 #[cycle(walk)]
 #[tactic(auto, using(g_diagram::proofs::LineLemmas::lines_by_variant))]
-fn push_branches<'a>(alloc: Global, entries: &mut Vec<Entry<'a>>, branches: &'a [Branch], first: u32) -> Result<(), AllocError>
+fn push_branches<'a>(
+    alloc: Global,
+    entries: &mut Vec<Entry<'a>>,
+    branches: &'a [Branch],
+    first: u32,
+) -> Result<(), AllocError>
     ensures { OnOk result (map seen entries.new.items ≡ map seen entries.old.items ++ branches_entries first (map branch_lines branches.now)) }
 {
     let mut line = first;
@@ -149,7 +299,12 @@ fn push_branches<'a>(alloc: Global, entries: &mut Vec<Entry<'a>>, branches: &'a 
 /// The nodes of the frames of a sequence, from the line of its first `frame`.
 #[cycle(walk)]
 #[tactic(auto, using(g_diagram::proofs::LineLemmas::lines_by_variant))]
-fn push_frames<'a>(alloc: Global, entries: &mut Vec<Entry<'a>>, frames: &'a [SequenceFrame], first: u32) -> Result<(), AllocError>
+fn push_frames<'a>(
+    alloc: Global,
+    entries: &mut Vec<Entry<'a>>,
+    frames: &'a [SequenceFrame],
+    first: u32,
+) -> Result<(), AllocError>
     ensures { OnOk result (map seen entries.new.items ≡ map seen entries.old.items ++ frames_entries first (map frame_lines frames.now)) }
 {
     let mut line = first;
@@ -173,7 +328,11 @@ fn push_panel<'a>(entries: &mut Vec<Entry<'a>>, panel: &'a [PanelItem]) -> Resul
     Ok(())
 }
 
-fn push_item<'a>(entries: &mut Vec<Entry<'a>>, item: &'a PanelItem, line: u32) -> Result<(), AllocError>
+fn push_item<'a>(
+    entries: &mut Vec<Entry<'a>>,
+    item: &'a PanelItem,
+    line: u32,
+) -> Result<(), AllocError>
     ensures { OnOk result (map seen entries.new.items ≡ map seen entries.old.items ++ panel_entries (item.now ∷ []) line) }
 {
     match item {

@@ -16,7 +16,7 @@ returns c =
     let old : List Port = map seen c.args.ports.now.items in
     c.in_ok-push_gives.ensures
     ∙ ap (λ ps. ps ++ ports_in gives) (c.in_ok-push_border.ensures
-        ∙ ap (λ is. old ++ ports_in (border_lines e is [] case_border c.in_ok-next.field-0 c.args.lines.now)) (c.as_slice.ensures.value ∙ c.in_ok-bodies.ensures)
-        ∙ ap (λ l. old ++ ports_in (border_lines e bodies [] case_border l c.args.lines.now)) c.in_ok-next.ensures)
+    ∙ ap (λ is. old ++ ports_in (border_lines e is [] case_border c.in_ok-next.field-0 c.args.lines.now)) (c.as_slice.ensures.value ∙ c.in_ok-bodies.ensures)
+    ∙ ap (λ l. old ++ ports_in (border_lines e bodies [] case_border l c.args.lines.now)) c.in_ok-next.ensures)
     ∙ append_assoc old (ports_in borders) (ports_in gives)
     ∙ ap (λ ps. old ++ ps) (sym (ports_append borders gives))

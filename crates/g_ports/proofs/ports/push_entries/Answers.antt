@@ -15,7 +15,7 @@ loop-entry-preserved c =
     let es : List Entry = c.args.entries.now in
     let i : ℕ = c.loop-entry.entry-index in
     one_more (λ (es : List Entry). ports_in (entries_lines free (map table.seen es))) (λ (es : List Entry). ports_in (entries_lines free (map table.seen es)))
-        (ports_in (kind_lines free (table.seen e) (table.seen_kind e.kind))) es i e (map seen c.loop-entry.ports.items) (map seen c.push_entry.new.ports.items)
-        (map seen c.args.ports.now.items ++ ports_in (entries_lines free (map table.seen es)))
-        c.loop-entry-test.true c.entry-item.is c.in_ok-push_entry.ensures
-        (ports_append (kind_lines free (table.seen e) (table.seen_kind e.kind)) (entries_lines free (map table.seen (drop (i + 1) es)))) c.loop-entry.invariant
+    (ports_in (kind_lines free (table.seen e) (table.seen_kind e.kind))) es i e (map seen c.loop-entry.ports.items) (map seen c.push_entry.new.ports.items)
+    (map seen c.args.ports.now.items ++ ports_in (entries_lines free (map table.seen es)))
+    c.loop-entry-test.true c.entry-item.is c.in_ok-push_entry.ensures
+    (ports_append (kind_lines free (table.seen e) (table.seen_kind e.kind)) (entries_lines free (map table.seen (drop (i + 1) es)))) c.loop-entry.invariant
