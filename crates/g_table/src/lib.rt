@@ -4,7 +4,7 @@
 
 mod count;
 mod entry;
-mod table;
+pub mod table;
 
 
 pub use entry::{Arm, Entry, Kind, Part};

@@ -1,6 +1,11 @@
 //! The broken-wire rules on names and lines.
 #![tactic(auto)]
 
+mod check;
 mod coded;
 mod edges;
+pub mod listed;
 mod marks;
+mod turns;
+
+pub use check::{BreakList, wiring};
