@@ -7,3 +7,4 @@ pub mod Sorting
 pub mod Turning
 pub mod Cycling
 pub mod Codings
+mod Examples

@@ -3,3 +3,4 @@ pub mod Breaks
 pub mod Coding
 pub mod Marks
 pub mod Checked
+pub mod Lines

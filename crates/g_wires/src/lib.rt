@@ -4,8 +4,11 @@
 mod check;
 mod coded;
 mod edges;
-pub mod listed;
+mod listed;
 mod marks;
 mod turns;
 
 pub use check::{BreakList, wiring};
+
+#[cfg(test)]
+mod tests;
