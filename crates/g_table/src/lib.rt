@@ -4,6 +4,6 @@
 
 mod count;
 mod entry;
-mod table;
+pub mod table;
 
 pub use entry::{Arm, Entry, Kind, Part};

@@ -58,13 +58,13 @@ any_both f g p q [] all = refl
 any_both f g p q (x ∷ xs) all =
     ap (λ b. b || list_any p (map f xs)) (All-head (λ x. p (f x) ≡ q (g x)) x xs all) ∙ ap (λ b. q (g x) || b) (any_both f g p q xs (All-tail (λ x. p (f x) ≡ q (g x)) x xs all))
 
+twice_step : {X : Type 0} (p : X → Bool) (x : X) (kept both : List X) (b : Bool) → filter p kept ≡ both → filter p (cond b (x ∷ kept) kept) ≡ cond (b && p x) (x ∷ both) both
+twice_step p x kept both true h = ap (λ ys. cond (p x) (x ∷ ys) ys) h
+twice_step p x kept both false h = h
+
 filter_twice : {X : Type 0} (p q : X → Bool) (xs : List X) → filter p (filter q xs) ≡ filter (λ x. q x && p x) xs
 filter_twice p q [] = refl
-filter_twice p q (x ∷ xs) = one (q x)
-  where
-    one : (b : Bool) → filter p (cond b (x ∷ filter q xs) (filter q xs)) ≡ cond (b && p x) (x ∷ filter (λ x. q x && p x) xs) (filter (λ x. q x && p x) xs)
-    one true = ap (λ ys. cond (p x) (x ∷ ys) ys) (filter_twice p q xs)
-    one false = filter_twice p q xs
+filter_twice p q (x ∷ xs) = twice_step p x (filter q xs) (filter (λ x. q x && p x) xs) (q x) (filter_twice p q xs)
 
 node_same : (o : Option ℕ) (n : ℕ) → is_number o n ≡ is_node o n
 node_same None n = refl

@@ -1,4 +1,10 @@
 pub mod Found
 pub mod Bipartite
 pub mod NumberLemmas
+pub mod EdgeLemmas
 pub mod Faithful
+pub mod Sorting
+pub mod Turning
+pub mod Cycling
+pub mod Codings
+mod Examples

@@ -79,3 +79,9 @@ module _ (old new : Table) (d : ℕ) (name : List ℕ) (v : ℕ) (adds : Adds ol
 
   pub has_kept : (p : Port) → has_wire_of old p → has_wire_of new p
   has_kept p h = kept p.diagram p.wire h
+
+pub port_has : (m : Table) (p : Port) (name : Bor (List ℕ)) (bytes : List ℕ) → p.wire ≡ Some name → bytes ≡ name.now → IsSome (number_at m p.diagram bytes) → has_wire_of m p
+port_has m p name bytes is same has =
+    let P : Option (Bor (List ℕ)) → Type 0 = is_numbered m p.diagram in
+    let Q : List ℕ → Type 0 = λ n. IsSome (number_at m p.diagram n) in
+    subst P (sym is) (subst Q same has)

@@ -8,7 +8,7 @@ use Rattle.g_diagram.specs.declared.place.Break.{Break}
 use Rattle.g_diagram.specs.declared.place.Place.{Place}
 use Rattle.g_diagram.specs.declared.hierarchy.Vi.{Vi}
 use Rattle.g_diagram.specs.declared.hierarchy.Hierarchy.{Hierarchy}
-use Rattle.g_diagram.specs.Ports.{ports_of}
+use Rattle.g_diagram.specs.Ports.{Port, ports_of}
 use Rattle.g_wires.specs.Wiring.{Spot, unsourced, LeadsToItself}
 
 abbrev pub break : (vi rule : ℕ) → Spot → Break
@@ -25,25 +25,30 @@ break_cmp a b = ordering_then (place_cmp a.place b.place) (nat_cmp a.rule b.rule
 abbrev pub has_break : List Break → Break → Bool
 has_break bs b = list_any (λ c. is_eq (break_cmp b c)) bs
 
--- the breaks of one VI, but for those of rule 6
-abbrev pub named_in : (vis : List Vi) → (number : ℕ) → Vi → List Break
-named_in vis number vi = map (break number 1) (unsourced (ports_of vis vi))
+-- the breaks of one VI with these ports, but for those of rule 6
+abbrev pub named_in : List Port → (number : ℕ) → List Break
+named_in ps number = map (break number 1) (unsourced ps)
 
-abbrev pub named_from : (vis : List Vi) → (number : ℕ) → List Vi → List Break
-named_from vis number [] = []
-named_from vis number (vi ∷ more) = named_in vis number vi ++ named_from vis (number + 1) more
+-- those of all VIs, from one on
+abbrev pub named_from : (ports : Vi → List Port) → (number : ℕ) → List Vi → List Break
+named_from ports number [] = []
+named_from ports number (vi ∷ more) = named_in (ports vi) number ++ named_from ports (number + 1) more
 
 -- a break of rule 6: the line itself
-pub record Cycles (vis : List Vi) (b : Break) : Type 0 where
+pub record Cycles (ports : Vi → List Port) (vis : List Vi) (b : Break) : Type 0 where
   pub vi : Vi
   pub stands : slice_get vis b.place.vi ≡ Some vi
-  pub leads : LeadsToItself (ports_of vis vi) b.place.line
+  pub leads : LeadsToItself (ports vi) b.place.line
   pub whole : b.place.operand ≡ 0
   pub rule : b.rule ≡ 6
 
--- what is broken of these rules
+-- what is broken, where VIs have these ports
+abbrev pub BreaksBy : (ports : Vi → List Port) → List Vi → Break → Type 0
+BreaksBy ports vis b = IsTrue (has_break (named_from ports 0 vis) b) ⊎ Cycles ports vis b
+
+-- what is broken of rules 1 and 6
 abbrev pub WiringBreak : Hierarchy → Break → Type 0
-WiringBreak h b = IsTrue (has_break (named_from h.vis 0 h.vis) b) ⊎ Cycles h.vis b
+WiringBreak h b = BreaksBy (ports_of h.vis) h.vis b
 
 -- the list of exactly what is broken: strictly ascending
 pub record ListsEach (P : Break → Type 0) (bs : List Break) : Type 0 where

@@ -2,3 +2,5 @@ pub mod Wiring
 pub mod Breaks
 pub mod Coding
 pub mod Marks
+pub mod Checked
+pub mod Lines

@@ -1,7 +1,7 @@
 //! The graph of nodes and wires of a VI: a vertex for each line and each wire, an edge for each operand
 //! of a node.
 
-ghost use Rattle.std.specs.Prelude.{◌≡◌, ◌<◌, ◌≤◌, ◌+◌, ◌&&◌, ◌||◌, ◌==◌, ℕ, false, length, IfOk, OnOk, IfSome, All};
+ghost use Rattle.std.specs.Prelude.{◌≡◌, ◌<◌, ◌≤◌, ◌+◌, ◌^◌, ◌&&◌, ◌||◌, ◌==◌, ℕ, false, length, IfOk, OnOk, IfSome, All};
 ghost use Rattle.std.specs.List.{list_any};
 ghost use Rattle.g_graph.specs.Graph.{has_edge, InRange};
 ghost use Rattle.g_wires.specs.Marks.{is_edge, WireBelow, NodeBelow};
@@ -40,7 +40,7 @@ fn bare(alloc: Global, count: usize) -> Result<Vec<Vec<usize>>, AllocError>
     ensures edges { IfOk result (λ graph. (a b : ℕ) → has_edge graph.items a b ≡ false) }
 {
     let mut graph = Vec::with_capacity(alloc, count)?;
-    for _ in 0..count {
+    for _vertex in 0..count {
         graph.push(Vec::new(alloc))?;
     }
     Ok(graph)

@@ -3,9 +3,9 @@ use Rattle.std.specs.Prelude.{All}
 use Rattle.g_graph.specs.Graph.{has_edge, RowInRange}
 use Rattle.g_wires.proofs.edges.bare.Given as goal
 
-abbrev pub invariant-loop-i : goal.invariant-loop-i
-invariant-loop-i l = record {
-  len : length l.graph.items ≡ l.i;
+abbrev pub invariant-loop-vertex : goal.invariant-loop-vertex
+invariant-loop-vertex l = record {
+  len : length l.graph.items ≡ l._vertex;
   rows : All (λ row. RowInRange l.count row.items) l.graph.items;
   edges : (a b : ℕ) → has_edge l.graph.items a b ≡ false;
 }

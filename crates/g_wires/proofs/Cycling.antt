@@ -1,0 +1,183 @@
+-- The breaks of rule 6 put together.
+use Rattle.std.proofs.Common.{◌≡◌, ◌⊎◌, inl, inr, ⊎_elim, ℕ, zero, suc, ◌+◌, ◌<◌, ◌≤◌, ◌==◌, Bool, true, false, ◌&&◌, ◌||◌, List, [], ◌∷◌, ◌++◌, length, get_or, drop, append_assoc, refl, sym, ap, ◌∙◌, subst, arith}
+use Rattle.std.proofs.lemmas.List.{at_drop_more, at_drop_all}
+use Rattle.std.specs.Prelude.{Option, Some, None, slice_get}
+use Rattle.std.specs.List.{list_any}
+use Rattle.std.specs.List.Sorted.{IsStrictlySortedBy}
+use Rattle.std.specs.declared.cmp.Ordering.{Ordering}
+use Rattle.std.specs.declared.cmp.Ordering.TheVariants.{Less, Equal, Greater}
+use Rattle.std.specs.Ordering.{ordering_then, nat_cmp, is_eq}
+use Rattle.std.specs.Cmp.{unsigned_tied}
+use Rattle.std.proofs.lemmas.List.Folds.{list_any-append}
+use Rattle.std.proofs.lemmas.Option.{slice_get_within}
+use Rattle.g_diagram.specs.declared.place.Break.{Break}
+use Rattle.g_diagram.specs.declared.place.Place.{Place}
+use Rattle.g_diagram.specs.declared.hierarchy.Vi.{Vi}
+use Rattle.g_diagram.specs.Ports.{Port, has_wire}
+use Rattle.g_diagram.specs.Leads.{Leads}
+use Rattle.g_wires.specs.declared.coded.Coded.{Coded}
+use Rattle.g_wires.specs.Wiring.{LeadsToItself}
+use Rattle.g_wires.specs.Breaks.{place_cmp, break_cmp, has_break, Cycles, named_in, named_from, BreaksBy, ListsEach}
+use Rattle.g_wires.specs.Marks.{is_marked, line_break, marked_from, coded_wire}
+use Rattle.g_wires.specs.Checked.{TellsLines, IsCycle, AddsCycles, CyclesBelow}
+use Rattle.g_wires.proofs.Found.{or_left, or_right, or_cases, and_left, and_right, and_both, same_number, number_same}
+use Rattle.g_wires.proofs.Turning.{leads_same}
+
+is_eq-then : (r o : Ordering) → is_eq (ordering_then r o) ≡ (is_eq r && is_eq o)
+is_eq-then Less o = refl
+is_eq-then Equal o = refl
+is_eq-then Greater o = refl
+
+parts_same : (b c : Break) → Bool
+parts_same b c = ((b.place.vi == c.place.vi) && ((b.place.line == c.place.line) && (b.place.operand == c.place.operand))) && (b.rule == c.rule)
+
+place_is : (p q : Place) → is_eq (place_cmp p q) ≡ ((p.vi == q.vi) && ((p.line == q.line) && (p.operand == q.operand)))
+place_is p q =
+    is_eq-then (nat_cmp p.vi q.vi) (ordering_then (nat_cmp p.line q.line) (nat_cmp p.operand q.operand))
+    ∙ ap (λ x. x && is_eq (ordering_then (nat_cmp p.line q.line) (nat_cmp p.operand q.operand))) (unsigned_tied p.vi q.vi)
+    ∙ ap (λ x. (p.vi == q.vi) && x) (is_eq-then (nat_cmp p.line q.line) (nat_cmp p.operand q.operand)
+        ∙ ap (λ x. x && is_eq (nat_cmp p.operand q.operand)) (unsigned_tied p.line q.line) ∙ ap (λ x. (p.line == q.line) && x) (unsigned_tied p.operand q.operand))
+
+break_is : (b c : Break) → is_eq (break_cmp b c) ≡ (((b.place.vi == c.place.vi) && ((b.place.line == c.place.line) && (b.place.operand == c.place.operand))) && (b.rule == c.rule))
+break_is b c = is_eq-then (place_cmp b.place c.place) (nat_cmp b.rule c.rule)
+    ∙ ap (λ x. x && is_eq (nat_cmp b.rule c.rule)) (place_is b.place c.place)
+    ∙ ap (λ x. ((b.place.vi == c.place.vi) && ((b.place.line == c.place.line) && (b.place.operand == c.place.operand))) && x) (unsigned_tied b.rule c.rule)
+
+abbrev made : (vi line operand rule : ℕ) → Break
+made v l o r = record { place = record { vi = v; line = l; operand = o }; rule = r }
+
+of_parts : (b : Break) (v l o r : ℕ) → b.place.vi ≡ v → b.place.line ≡ l → b.place.operand ≡ o → b.rule ≡ r → b ≡ made v l o r
+of_parts b v l o r ev el eo er =
+    ap (λ x. made x b.place.line b.place.operand b.rule) ev ∙ ap (λ x. made v x b.place.operand b.rule) el ∙ ap (λ x. made v l x b.rule) eo ∙ ap (made v l o) er
+
+break_same : (b c : Break) → is_eq (break_cmp b c) ≡ true → b ≡ c
+break_same b c h =
+    let all = sym (break_is b c) ∙ h in
+    let places = and_left ((b.place.vi == c.place.vi) && ((b.place.line == c.place.line) && (b.place.operand == c.place.operand))) (b.rule == c.rule) all in
+    let rest = and_right (b.place.vi == c.place.vi) ((b.place.line == c.place.line) && (b.place.operand == c.place.operand)) places in
+    of_parts b c.place.vi c.place.line c.place.operand c.rule
+        (same_number b.place.vi c.place.vi (and_left (b.place.vi == c.place.vi) ((b.place.line == c.place.line) && (b.place.operand == c.place.operand)) places))
+        (same_number b.place.line c.place.line (and_left (b.place.line == c.place.line) (b.place.operand == c.place.operand) rest))
+        (same_number b.place.operand c.place.operand (and_right (b.place.line == c.place.line) (b.place.operand == c.place.operand) rest))
+        (same_number b.rule c.rule (and_right ((b.place.vi == c.place.vi) && ((b.place.line == c.place.line) && (b.place.operand == c.place.operand))) (b.rule == c.rule) all))
+
+itself : (b : Break) → is_eq (break_cmp b b) ≡ true
+itself b = break_is b b ∙ and_both _ _ (and_both _ _ (number_same b.place.vi) (and_both _ _ (number_same b.place.line) (number_same b.place.operand))) (number_same b.rule)
+
+-- a break of a marked line
+record Marked (vi first : ℕ) (ms : List Bool) (b : Break) : Type 0 where
+  at : ℕ
+  below : at < length ms
+  mark : get_or ms at false ≡ true
+  is : b ≡ line_break vi (first + at)
+
+marked_has : (vi first : ℕ) (ms : List Bool) (b : Break) → has_break (marked_from vi first ms) b ≡ true → Marked vi first ms b
+marked_has vi first [] b h = cc
+marked_has vi first (true ∷ ms) b h = ⊎_elim
+    (λ e. record { at = 0; below = omega arith; mark = refl; is = break_same b (line_break vi first) e ∙ ap (line_break vi) (omega arith) })
+    (λ e. let r : Marked vi (first + 1) ms b = marked_has vi (first + 1) ms b e in
+        record { at = suc r.at; below = let lt = r.below in omega (arith, lt); mark = r.mark; is = r.is ∙ ap (line_break vi) (omega arith) })
+    (or_cases (is_eq (break_cmp b (line_break vi first))) (has_break (marked_from vi (first + 1) ms) b) h)
+marked_has vi first (false ∷ ms) b h =
+    let r : Marked vi (first + 1) ms b = marked_has vi (first + 1) ms b h in
+    record { at = suc r.at; below = let lt = r.below in omega (arith, lt); mark = r.mark; is = r.is ∙ ap (line_break vi) (omega arith) }
+
+marked_is : (vi first : ℕ) (ms : List Bool) (k : ℕ) → k < length ms → get_or ms k false ≡ true → has_break (marked_from vi first ms) (line_break vi (first + k)) ≡ true
+marked_is vi first [] k lt h = absurd (omega arith)
+marked_is vi first (true ∷ ms) zero lt h =
+    let P : ℕ → Type 0 = λ n. is_eq (break_cmp (line_break vi n) (line_break vi first)) ≡ true in
+    let e : first ≡ first + 0 = omega arith in
+    or_left (is_eq (break_cmp (line_break vi (first + 0)) (line_break vi first))) (has_break (marked_from vi (first + 1) ms) (line_break vi (first + 0))) (subst P e (itself (line_break vi first)))
+marked_is vi first (true ∷ ms) (suc k) lt h =
+    let P : ℕ → Type 0 = λ n. has_break (marked_from vi (first + 1) ms) (line_break vi n) ≡ true in
+    let e : first + 1 + k ≡ first + suc k = omega arith in
+    or_right (is_eq (break_cmp (line_break vi (first + suc k)) (line_break vi first))) (has_break (marked_from vi (first + 1) ms) (line_break vi (first + suc k)))
+        (subst P e (marked_is vi (first + 1) ms k (omega arith) h))
+marked_is vi first (false ∷ ms) zero lt h = cc
+marked_is vi first (false ∷ ms) (suc k) lt h =
+    let P : ℕ → Type 0 = λ n. has_break (marked_from vi (first + 1) ms) (line_break vi n) ≡ true in
+    let e : first + 1 + k ≡ first + suc k = omega arith in
+    subst P e (marked_is vi (first + 1) ms k (omega arith) h)
+
+pub cycles_added : (vi : ℕ) (ps : List Port) (cs : List Coded) → ((a b : ℕ) → coded_wire cs a b ≡ has_wire ps a b) → (old new : List Break) (marks : List Bool)
+    → new ≡ old ++ marked_from vi 0 marks → TellsLines cs marks → AddsCycles vi ps old new
+cycles_added vi ps cs steps old new marks e tells = record {
+  only = λ b h. ⊎_elim inl (λ m. inr (cycle b (marked_has vi 0 marks b m))) (or_cases (has_break old b) (has_break (marked_from vi 0 marks) b) (sym (split b) ∙ h));
+  keeps = λ b h. split b ∙ or_left (has_break old b) (has_break (marked_from vi 0 marks) b) h;
+  each = λ b c. split b ∙ or_right (has_break old b) (has_break (marked_from vi 0 marks) b) (listed_cycle b c);
+}
+  where
+    split : (b : Break) → has_break new b ≡ (has_break old b || has_break (marked_from vi 0 marks) b)
+    split b = ap (λ bs. has_break bs b) e ∙ list_any-append (λ c. is_eq (break_cmp b c)) old (marked_from vi 0 marks)
+
+    cycle : (b : Break) → Marked vi 0 marks b → IsCycle vi ps b
+    cycle b r =
+        let P : ℕ → Type 0 = LeadsToItself ps in
+        let line : r.at ≡ b.place.line = sym (ap (λ (x : Break). x.place.line) r.is ∙ omega arith) in
+        record {
+          at = ap (λ (x : Break). x.place.vi) r.is;
+          leads = subst P line (leads_same (coded_wire cs) (has_wire ps) steps r.at r.at (tells.sound r.at r.below r.mark));
+          whole = ap (λ (x : Break). x.place.operand) r.is;
+          rule = ap (λ (x : Break). x.rule) r.is;
+        }
+
+    listed_cycle : (b : Break) → IsCycle vi ps b → has_break (marked_from vi 0 marks) b ≡ true
+    listed_cycle b c =
+        let l : Leads (coded_wire cs) b.place.line b.place.line = leads_same (has_wire ps) (coded_wire cs) (λ x y. sym (steps x y)) b.place.line b.place.line c.leads in
+        let P : Break → Type 0 = λ x. has_break (marked_from vi 0 marks) x ≡ true in
+        let e : b.place.line ≡ 0 + b.place.line = omega arith in
+        subst P (sym (of_parts b vi (0 + b.place.line) 0 6 c.at e c.whole c.rule)) (marked_is vi 0 marks b.place.line (tells.below b.place.line l) (tells.complete b.place.line l))
+
+below_or_last : (v n : ℕ) → v < n + 1 → (v < n) ⊎ (v ≡ n)
+below_or_last v n lt = grind arith
+
+pub cycles_more : (ports : Vi → List Port) (vis : List Vi) (i : ℕ) (vi : Vi) (old new : List Break) → slice_get vis i ≡ Some vi → AddsCycles i (ports vi) old new
+    → CyclesBelow ports vis i old → CyclesBelow ports vis (i + 1) new
+cycles_more ports vis i vi old new s adds f = record {
+  only = λ b h. ⊎_elim (f.only b) (λ c. record { vi = vi; stands = ap (slice_get vis) c.at ∙ s; leads = c.leads; whole = c.whole; rule = c.rule }) (adds.only b h);
+  each = λ b c lt. ⊎_elim (λ below. adds.keeps b (f.each b c below)) (λ same. adds.each b (one b c same)) (below_or_last b.place.vi i lt);
+}
+  where
+    one : (b : Break) → Cycles ports vis b → b.place.vi ≡ i → IsCycle i (ports vi) b
+    one b c same =
+        let e : Some c.vi ≡ Some vi = sym c.stands ∙ ap (slice_get vis) same ∙ s in
+        let f : c.vi ≡ vi = cc in
+        let P : Vi → Type 0 = λ v. LeadsToItself (ports v) b.place.line in
+        record { at = same; leads = subst P f c.leads; whole = c.whole; rule = c.rule }
+
+pub no_cycles : (ports : Vi → List Port) (vis : List Vi) (bs : List Break) → bs ≡ [] → CyclesBelow ports vis 0 bs
+no_cycles ports vis bs e = record {
+  only = λ b h. let none : false ≡ true = sym (ap (λ xs. has_break xs b) e) ∙ h in cc;
+  each = λ b c lt. absurd (omega arith);
+}
+
+pub lists_each : (ports : Vi → List Port) (vis : List Vi) (named cycles all bs : List Break) → named ≡ named_from ports 0 vis → CyclesBelow ports vis (length vis) cycles
+    → all ≡ named ++ cycles → IsStrictlySortedBy break_cmp bs → ((b : Break) → has_break bs b ≡ has_break all b) → ListsEach (BreaksBy ports vis) bs
+lists_each ports vis named cycles all bs en ec ea order same = record {
+  ascending = order;
+  only = λ b h. ⊎_elim (λ x. inl (sym (ap (λ xs. has_break xs b) en) ∙ x)) (λ x. inr (ec.only b x)) (or_cases (has_break named b) (has_break cycles b) (sym (split b) ∙ h));
+  each = λ b p. split b ∙ ⊎_elim
+      (λ x. or_left (has_break named b) (has_break cycles b) (ap (λ xs. has_break xs b) en ∙ x))
+      (λ (c : Cycles ports vis b). or_right (has_break named b) (has_break cycles b) (ec.each b c (slice_get_within vis b.place.vi c.vi c.stands)))
+      p;
+}
+  where
+    split : (b : Break) → has_break bs b ≡ (has_break named b || has_break cycles b)
+    split b = same b ∙ ap (λ xs. has_break xs b) ea ∙ list_any-append (λ c. is_eq (break_cmp b c)) named cycles
+
+-- one more VI, as at a step of a loop
+pub named_more : (ports : Vi → List Port) (vis : List Vi) (i : ℕ) (vi : Vi) (number next : ℕ) (old new whole : List Break) → i < length vis → vi ≡ get_or vis i vi → next ≡ number + 1
+    → new ≡ old ++ named_in (ports vi) number → old ++ named_from ports number (drop i vis) ≡ whole → new ++ named_from ports next (drop (i + 1) vis) ≡ whole
+named_more ports vis i vi number next old new whole lt is en e h =
+    ap (λ bs. bs ++ named_from ports next (drop (i + 1) vis)) e ∙ append_assoc old (named_in (ports vi) number) (named_from ports next (drop (i + 1) vis))
+    ∙ ap (λ n. old ++ (named_in (ports vi) number ++ named_from ports n (drop (i + 1) vis))) en
+    ∙ ap (λ v. old ++ (named_in (ports v) number ++ named_from ports (number + 1) (drop (i + 1) vis))) is
+    ∙ ap (λ bs. old ++ bs) (sym (at_drop_more (named_from ports number) vis i vi lt)) ∙ h
+
+nil_right : (bs : List Break) → bs ++ [] ≡ bs
+nil_right [] = refl
+nil_right (b ∷ bs) = ap (λ xs. b ∷ xs) (nil_right bs)
+
+-- after the last VI
+pub named_all : (ports : Vi → List Port) (vis : List Vi) (i number : ℕ) (named whole : List Break) → length vis ≤ i → named ++ named_from ports number (drop i vis) ≡ whole → named ≡ whole
+named_all ports vis i number named whole le h = sym (nil_right named) ∙ ap (λ bs. named ++ bs) (sym (at_drop_all (named_from ports number) vis i le)) ∙ h

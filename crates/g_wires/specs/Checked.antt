@@ -1,0 +1,48 @@
+-- What the checks of one VI say, which the list of all is put together from.
+use Rattle.std.specs.Prelude.{ℕ, ◌≡◌, ◌⊎◌, ◌<◌, ◌^◌, Bool, true, List, ◌++◌, map, filter, length, All}
+use Rattle.std.specs.List.{list_any}
+use Rattle.g_diagram.specs.declared.place.Break.{Break}
+use Rattle.g_diagram.specs.declared.hierarchy.Vi.{Vi}
+use Rattle.g_diagram.specs.Lines.{entries_of}
+use Rattle.g_diagram.specs.Operands.{Freedom, control_lines, entries_lines}
+use Rattle.g_diagram.specs.Ports.{Port, ports_in, has_wire}
+use Rattle.g_diagram.specs.Leads.{Leads}
+use Rattle.g_wires.specs.declared.coded.Coded.{Coded}
+use Rattle.g_wires.specs.Wiring.{unsourced, LeadsToItself}
+use Rattle.g_wires.specs.Breaks.{break, has_break, Cycles}
+use Rattle.g_wires.specs.Marks.{WireBelow, gives, is_marked, lacks_mark, coded_break, coded_wire}
+
+-- the ports of a VI where these inputs of calls are free
+abbrev pub ports_with : Freedom → Vi → List Port
+ports_with free vi = ports_in (control_lines 1 vi.panel ++ entries_lines free (entries_of vi))
+
+-- ports by numbers that say what these ports say
+pub record IsCoding (ps : List Port) (cs : List Coded) (count : ℕ) : Type 0 where
+  pub small : count < 2 ^ 63
+  pub wires : All (WireBelow count) cs
+  pub breaks : (marks : List Bool) → ((w : ℕ) → is_marked marks w ≡ list_any (gives w) cs) → (vi : ℕ) → map (coded_break vi 1) (filter (lacks_mark marks) cs) ≡ map (break vi 1) (unsourced ps)
+  pub steps : (a b : ℕ) → coded_wire cs a b ≡ has_wire ps a b
+
+-- of each line, whether it leads to itself
+pub record TellsLines (cs : List Coded) (marks : List Bool) : Type 0 where
+  pub sound : (line : ℕ) → line < length marks → is_marked marks line ≡ true → Leads (coded_wire cs) line line
+  pub below : (line : ℕ) → Leads (coded_wire cs) line line → line < length marks
+  pub complete : (line : ℕ) → Leads (coded_wire cs) line line → is_marked marks line ≡ true
+
+-- a break of rule 6 of one VI
+pub record IsCycle (vi : ℕ) (ps : List Port) (b : Break) : Type 0 where
+  pub at : b.place.vi ≡ vi
+  pub leads : LeadsToItself ps b.place.line
+  pub whole : b.place.operand ≡ 0
+  pub rule : b.rule ≡ 6
+
+-- the breaks of rule 6 of one VI, added to others
+pub record AddsCycles (vi : ℕ) (ps : List Port) (old new : List Break) : Type 0 where
+  pub only : (b : Break) → has_break new b ≡ true → (has_break old b ≡ true) ⊎ IsCycle vi ps b
+  pub keeps : (b : Break) → has_break old b ≡ true → has_break new b ≡ true
+  pub each : (b : Break) → IsCycle vi ps b → has_break new b ≡ true
+
+-- the breaks of rule 6 of the first n VIs
+pub record CyclesBelow (ports : Vi → List Port) (vis : List Vi) (n : ℕ) (bs : List Break) : Type 0 where
+  pub only : (b : Break) → has_break bs b ≡ true → Cycles ports vis b
+  pub each : (b : Break) → Cycles ports vis b → b.place.vi < n → has_break bs b ≡ true
