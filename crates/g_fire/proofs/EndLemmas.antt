@@ -1,5 +1,6 @@
 -- How a run ended, by the steps.
-use Rattle.std.proofs.Common.{◌≡◌, Bool, true, false, ◌&&◌, ◌||◌, ℕ, zero, suc, List, [], ◌∷◌, ◌++◌, map, filter, Option, Some, None, cond, refl, ap, sym, subst, ◌∙◌, eq-eqb}
+use Rattle.std.specs.Prelude.{IfSome, IfNone}
+use Rattle.std.proofs.Common.{◌≡◌, Bool, true, false, ◌&&◌, ◌||◌, ℕ, zero, suc, ◌+◌, List, [], ◌∷◌, ◌++◌, map, filter, Option, Some, None, cond, refl, ap, sym, subst, ◌∙◌, eq-eqb}
 use Rattle.std.specs.Prelude.{is_some, not, slice_get, ◌==◌}
 use Rattle.std.specs.List.{list_all, list_any}
 use Rattle.std.proofs.lemmas.List.{append-nil}
@@ -15,7 +16,7 @@ use Rattle.g_fire.specs.Program.{Program, vi_in}
 use Rattle.g_fire.specs.State.{first_frame, is_done, is_complete, entries_in, start}
 use Rattle.g_fire.specs.Fire.{Effect, can_fire, fire, effect_of, or_same}
 use Rattle.g_fire.specs.Run.{firing, after, after_from, go_on, node_firings, frame_firings, candidates, enabled, is_empty, is_at_rest, first_complete, end_of, IsReached}
-use Rattle.g_fire.specs.Plan.{step_of, step_can, Ascends, IsPlan}
+use Rattle.g_fire.specs.Plan.{step_of, step_can, Ascends, CanAt, IsPlan}
 use Rattle.g_fire.proofs.StepLemmas.{some_is, refute}
 use Rattle.g_fire.proofs.Bridge.{can_at}
 use Rattle.g_fire.proofs.RunLemmas.{start_frames}
@@ -115,3 +116,20 @@ end_is p steps plan s is =
     by true c = refl
     by false true = refl
     by false false = refl
+
+or_true : (b : Bool) → b || true ≡ true
+or_true true = refl
+or_true false = refl
+
+any_at : (s : FireState) (steps : List Step) (k : ℕ) → CanAt s steps k → list_any (step_can s) steps ≡ true
+any_at s [] k can = absurd (refute (ap is_some can.1))
+any_at s (st ∷ steps) zero can = ap (λ b. b || list_any (step_can s) steps) (ap (step_can s) (some_is st can.0 can.1) ∙ can.2)
+any_at s (st ∷ steps) (suc k) can = ap (λ b. step_can s st || b) (any_at s steps k (can.0, can.1, can.2)) ∙ or_true (step_can s st)
+
+pub some_can : (s : FireState) (steps : List Step) (o : Option ℕ) → IfSome o (CanAt s steps) → is_some o ≡ true → list_any (step_can s) steps ≡ true
+some_can s steps None can h = absurd (refute h)
+some_can s steps (Some k) can h = any_at s steps k can
+
+pub none_can : (s : FireState) (steps : List Step) (o : Option ℕ) → IfNone o (list_any (step_can s) steps ≡ false) → is_some o ≡ false → list_any (step_can s) steps ≡ false
+none_can s steps None none h = none
+none_can s steps (Some k) none h = absurd (refute (sym h))
