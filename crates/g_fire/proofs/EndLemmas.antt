@@ -88,7 +88,7 @@ module _ (p : Program) (steps : List Step) (plan : IsPlan p steps) (s : FireStat
       ∙ ap (λ xs. is_empty (filter (can_fire p s) xs)) (append-nil (node_firings 0 (nodes_of 0 (entries_in (vi_in p 0)))))
       ∙ ap (λ es. is_empty (filter (can_fire p s) (node_firings 0 (nodes_of 0 es)))) nodes_are
       ∙ none_enabled (can_fire p s) (λ e. step_can s (step_of plan.find e)) plan.vi.entries
-        (λ k e at. (diagrams 0 plan.vi.entries plan.ascends k e at, can_at p steps plan s frames k (step_of plan.find e) (ap (λ sts. slice_get sts k) plan.steps_are ∙ mapped_at (step_of plan.find) plan.vi.entries k e at)))
+      (λ k e at. (diagrams 0 plan.vi.entries plan.ascends k e at, can_at p steps plan s frames k (step_of plan.find e) (ap (λ sts. slice_get sts k) plan.steps_are ∙ mapped_at (step_of plan.find) plan.vi.entries k e at)))
       ∙ ap not (any_map (step_of plan.find) (step_can s) plan.vi.entries ∙ ap (list_any (step_can s)) (sym plan.steps_are))
 
   complete_is : first_complete p s s.frames ≡ list_all (λ st. is_done s 0 st.line) steps

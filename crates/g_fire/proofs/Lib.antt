@@ -7,6 +7,7 @@ pub mod Bridge
 pub mod PlanLemmas
 pub mod RunLemmas
 pub mod EndLemmas
+pub mod LawLemmas
 pub mod Compute
 pub mod Words
 pub mod Rows

@@ -2,6 +2,7 @@
 #![tactic(auto)]
 
 mod firing;
+mod laws;
 mod machine;
 mod maps;
 mod names;
@@ -12,6 +13,7 @@ mod start;
 mod state;
 
 pub use firing::{Firing, FrameNode, Trace};
+pub use laws::run_laws;
 pub use maps::{Done, Terminal, Values, WireSource};
 pub use print::state_text;
 pub use run::{Ran, run_all};

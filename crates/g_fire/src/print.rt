@@ -14,17 +14,12 @@ use crate::run::{least_step, steps_of};
 use crate::state::{Content, End, FireState};
 use g_diagram::{Hierarchy, PanelItem};
 use g_types::{Bytes, Name};
-use g_values::Value;
 use g_valtext::print_value;
+use g_values::Value;
 use std::alloc::{AllocError, Global};
 
 /// Adds `NAME = VALUE` and a line feed.
-fn push_line(
-    alloc: Global,
-    out: &mut Vec<u8>,
-    name: &Name,
-    value: &Value,
-) -> Result<(), AllocError>
+fn push_line(alloc: Global, out: &mut Vec<u8>, name: &Name, value: &Value) -> Result<(), AllocError>
     ensures { OnOk result (out.new.items ≡ out.old.items ++ (name.now ++ (codes " = " ++ (text value.now ++ (10 ∷ []))))) }
 {
     let value = print_value(alloc, value)?;
