@@ -99,10 +99,10 @@ module _ (s : FireState) (vi : FlatVi) (find : Finder) (finds : (name : List ℕ
   none_at [] line h = refl
   none_at (e ∷ es) line h =
       by ((e.line == line) && (e.diagram == 0)) (none_at es line (or_right (step_can s (step_of find e)) _ h))
-      where
-        by : (b : Bool) → is_some (on_node s 0 first_frame reader None (node_at 0 line es)) ≡ false → is_some (on_node s 0 first_frame reader None (cond b (Some e) (node_at 0 line es))) ≡ false
-        by true rest = ap is_some (step_agrees e) ∙ or_left (step_can s (step_of find e)) _ h
-        by false rest = rest
+    where
+      by : (b : Bool) → is_some (on_node s 0 first_frame reader None (node_at 0 line es)) ≡ false → is_some (on_node s 0 first_frame reader None (cond b (Some e) (node_at 0 line es))) ≡ false
+      by true rest = ap is_some (step_agrees e) ∙ or_left (step_can s (step_of find e)) _ h
+      by false rest = rest
 
   refused_choice : (o : Option Entry) (choice : ℕ) → is_some (on_node s 0 first_frame reader (Some choice) o) ≡ false
   refused_choice None choice = refl

@@ -6,6 +6,8 @@ pub mod StepLemmas
 pub mod Bridge
 pub mod PlanLemmas
 pub mod RunLemmas
+pub mod EndLemmas
+pub mod LawLemmas
 pub mod Compute
 pub mod Words
 pub mod Rows

@@ -146,8 +146,8 @@ plain_apply : (op : Primitive) (find : Finder) (ins ws : List Wire) → ws ≡ i
 plain_apply op find ins ws e sum two =
     subst (λ xs. (is_sum op && (length (map (input_on find) xs) == 2)) && list_all is_wired (map (input_on find) xs) ≡ true) (sym e)
     (both _ _
-      (both _ _ sum (ap (λ n. n == 2) (same_length (input_on find) ins) ∙ and_left (length ins == 2) (list_all is_some ins) two))
-      (all_wired find ins (and_right (length ins == 2) (list_all is_some ins) two)))
+    (both _ _ sum (ap (λ n. n == 2) (same_length (input_on find) ins) ∙ and_left (length ins == 2) (list_all is_some ins) two))
+    (all_wired find ins (and_right (length ins == 2) (list_all is_some ins) two)))
 
 const_sources : (q : List ℕ) (l : ℕ) (t : Ty) (literal : Lit) (out : Wire) (free : Freedom) (es : List Entry)
     → source_of (ports_in (entries_lines free (entry l 0 (Const t literal out) ∷ es))) 0 q ≡ or_else (named (given_wires l 1 (out ∷ [])) q) (source_of (ports_in (entries_lines free es)) 0 q)
@@ -238,7 +238,7 @@ finds vi free plain q =
     ∙ ap (λ l. or_else (named (given_panel 1 vi.panel) q) (named (given_nodes l vi.top.nodes) q)) (omega arith)
     ∙ ap (or_else (named (given_panel 1 vi.panel) q)) (sym (nodes_sources (λ name. None) q (1 + length vi.panel) vi.top.nodes free plain))
     ∙ sym (panel_sources q 1 vi.panel free (entries_of vi)
-      ∙ ap (or_else (named (given_panel 1 vi.panel) q)) (shown_sources q 1 vi.panel free (nodes_entries vi.top.nodes (1 + length vi.panel) 0)))
+    ∙ ap (or_else (named (given_panel 1 vi.panel) q)) (shown_sources q 1 vi.panel free (nodes_entries vi.top.nodes (1 + length vi.panel) 0)))
 
 pub is_plan : (h : Hierarchy) (vi : Vi) → h.vis ≡ vi ∷ [] → IsFormVi vi → (table : Table) → table ≡ table_of vi → (steps : List Step) → steps ≡ map (step_of (named table)) (entries_of vi)
     → IsPlan (program h) steps

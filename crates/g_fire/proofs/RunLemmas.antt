@@ -74,8 +74,8 @@ put_i32 : (es : List (Terminal × Value)) (t : Terminal) (v : Value) → are_i32
 put_i32 [] t v all h = both (is_i32 v) true h refl
 put_i32 (e ∷ es) t v all h = by (same_terminal t e.0) (put_i32 es t v (and_right (is_i32 e.1) (are_i32 es) all) h)
   where
-    by : (b : Bool) → are_i32 (put_value es t v) ≡ true → are_i32 (cond b ((e.0, v) ∷ es) (e ∷ put_value es t v)) ≡ true
-    by true rest = both (is_i32 v) (are_i32 es) h (and_right (is_i32 e.1) (are_i32 es) all)
+    by : (b : Bool) → are_i32 (put_value es t v) ≡ true → are_i32 (cond b (e ∷ es) (e ∷ put_value es t v)) ≡ true
+    by true rest = all
     by false rest = both (is_i32 e.1) (are_i32 (put_value es t v)) (and_left (is_i32 e.1) (are_i32 es) all) rest
 
 puts_i32 : (line k : ℕ) (vs : List Value) (es : List (Terminal × Value)) → list_all is_i32 vs ≡ true → are_i32 es ≡ true → are_i32 (put_all 0 (outputs_from line k vs) es) ≡ true
@@ -139,8 +139,8 @@ pub keeps_i32 : (s : FireState) (st : Step) → step_can s st ≡ true → step_
 keeps_i32 s st can plain all =
     ap (λ o. are_i32 (or_same s (firing 0 st.line) o).values) (effect_is s st can)
     ∙ work_i32 s st.line (map (value_of_input s) st.inputs) st.work all
-      (all_inputs_i32 s all st.inputs (and_right (plain_work (length st.inputs) st.work) (list_all is_wired st.inputs) plain) (and_right _ (list_all (has_input s) st.inputs) (ready s st can)))
-      (ap (λ n. plain_work n st.work) (values_len s st.inputs) ∙ and_left (plain_work (length st.inputs) st.work) (list_all is_wired st.inputs) plain)
+    (all_inputs_i32 s all st.inputs (and_right (plain_work (length st.inputs) st.work) (list_all is_wired st.inputs) plain) (and_right _ (list_all (has_input s) st.inputs) (ready s st can)))
+    (ap (λ n. plain_work n st.work) (values_len s st.inputs) ∙ and_left (plain_work (length st.inputs) st.work) (list_all is_wired st.inputs) plain)
 
 -- ---- the start
 

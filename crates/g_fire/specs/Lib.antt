@@ -8,3 +8,4 @@ pub mod Cells
 pub mod Run
 pub mod Plan
 pub mod Print
+pub mod Laws

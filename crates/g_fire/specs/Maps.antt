@@ -16,10 +16,10 @@ abbrev pub value_at : Terminal → List (Terminal × Value) → Option Value
 value_at t [] = None
 value_at t (e ∷ es) = if same_terminal t e.0 then Some e.1 else value_at t es
 
--- a source with another value, or with its first one
+-- a source with a value. One that has a value keeps it
 abbrev pub put_value : List (Terminal × Value) → Terminal → Value → List (Terminal × Value)
 put_value [] t v = (t, v) ∷ []
-put_value (e ∷ es) t v = if same_terminal t e.0 then (e.0, v) ∷ es else e ∷ put_value es t v
+put_value (e ∷ es) t v = if same_terminal t e.0 then e ∷ es else e ∷ put_value es t v
 
 -- the firings that a node did
 abbrev pub firings_at : FrameNode → List (FrameNode × List Fired) → List Fired

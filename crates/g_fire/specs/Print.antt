@@ -9,7 +9,9 @@ use Rattle.g_fire.specs.declared.state.Content.TheVariants.{Panel}
 use Rattle.g_fire.specs.declared.state.FireState.{FireState}
 use Rattle.g_fire.specs.Program.{FlatVi, Program, vi_in}
 use Rattle.g_fire.specs.State.{panel_object}
-use Rattle.g_fire.specs.Run.{End, Complete, Stalled, Unfinished, end_of}
+use Rattle.g_fire.specs.declared.state.End.{End}
+use Rattle.g_fire.specs.declared.state.End.TheVariants.{Complete, Stalled, Unfinished}
+use Rattle.g_fire.specs.Run.{end_of}
 
 -- `NAME = VALUE` and a line feed, and what follows
 abbrev pub indicator_line : (name : List ℕ) → Value → List ℕ → List ℕ

@@ -3,6 +3,8 @@ use Rattle.std.specs.Prelude.{◌≡◌, ℕ, zero, suc, Bool, true, false, List
 use Rattle.g_values.specs.declared.value.Value.{Value}
 use Rattle.g_diagram.specs.Lines.{Entry}
 use Rattle.g_fire.specs.declared.firing.Firing.{Firing}
+use Rattle.g_fire.specs.declared.state.End.{End}
+use Rattle.g_fire.specs.declared.state.End.TheVariants.{Complete, Stalled, Unfinished}
 use Rattle.g_fire.specs.declared.state.FireState.{FireState}
 use Rattle.g_fire.specs.declared.state.Frame.{Frame}
 use Rattle.g_fire.specs.Program.{Program}
@@ -62,11 +64,6 @@ is_empty (x ∷ xs) = false
 abbrev pub is_at_rest : Program → FireState → Bool
 is_at_rest p s = is_empty (enabled p s)
 
-pub data End : Type 0 where
-  Complete : End
-  Stalled : End
-  Unfinished : End
-
 abbrev pub first_complete : Program → FireState → List Frame → Bool
 first_complete p s [] = false
 first_complete p s (f ∷ fs) = is_complete p s 0 f
@@ -74,3 +71,9 @@ first_complete p s (f ∷ fs) = is_complete p s 0 f
 -- a state at rest is complete where frame 0 is, and else stalled
 abbrev pub end_of : Program → FireState → End
 end_of p s = if is_at_rest p s then (if first_complete p s s.frames then Complete else Stalled) else Unfinished
+
+-- a state to which a run comes from the start
+pub record IsReached (p : Program) (s : FireState) : Type 0 where
+  pub controls : List Value
+  pub trace : List Firing
+  pub after_it : after p controls trace ≡ Some s

@@ -66,11 +66,15 @@ impl Values {
         self.map.get(&source)
     }
 
-    /// Gives a source a value. Where memory is wanting nothing changes and the value is gone.
+    /// Gives a source a value; one that has a value keeps it. Where memory is wanting nothing
+    /// changes and the value is gone.
     pub fn put(&mut self, source: Terminal, value: Value) -> Result<(), AllocError>
         ensures ok { OnOk result (self.new ≡ put_value self.old source value) }
         ensures err { OnErr result (self.new ≡ self.old) }
     {
+        if self.get(source).is_some() {
+            return Ok(());
+        }
         self.map.insert(source, value)?;
         Ok(())
     }

@@ -85,7 +85,11 @@ fn add_panel<'a>(names: &mut Names<'a>, panel: &'a [PanelItem]) -> Result<(), Al
 {
     let mut line = 1;
     for item in panel {
-        if let PanelItem::Control { out: Some(name), .. } = item {
+        if let PanelItem::Control {
+            out: Some(name),
+            ..
+        } = item
+        {
             names.add(name.as_slice(), WireSource { line, operand: 1 })?;
         }
         line += 1;
@@ -98,11 +102,14 @@ fn add_node<'a>(names: &mut Names<'a>, line: u64, node: &'a Node) -> Result<(), 
     ensures { OnOk result (names.new ≡ add_all names.old (given_at line (out-Node node.now))) }
 {
     match node {
-        Node::Const { out: Some(name), .. } => {
-            names.add(name.as_slice(), WireSource { line, operand: 1 })
-        }
+        Node::Const {
+            out: Some(name),
+            ..
+        } => { names.add(name.as_slice(), WireSource { line, operand: 1 }) }
         Node::Apply {
-            inputs, outputs, ..
+            inputs,
+            outputs,
+            ..
         } => {
             let inputs = inputs.as_slice();
             add_wires(names, line, inputs.len() as u64 + 1, outputs.as_slice())

@@ -31,10 +31,7 @@ pub(crate) enum Work {
     Never,
     Give(Num),
     /// With the operand of the first output.
-    Apply {
-        primitive: Primitive,
-        first: u64,
-    },
+    Apply { primitive: Primitive, first: u64 },
     /// The type is that of the indicator.
     Show(Ty),
 }

@@ -1,6 +1,6 @@
 //! Whole runs.
 
-ghost use Rattle.std.specs.Prelude.{◌≡◌, false, Some, IfOk, IfSome, IfNone};
+ghost use Rattle.std.specs.Prelude.{◌≡◌, ◌<◌, false, Some, length, IfOk, IfSome, IfNone};
 ghost use Rattle.std.specs.List.{list_any};
 ghost use Rattle.g_diagram.specs.Form.{IsForm};
 ghost use Rattle.g_fire.specs.Plan.{step_can, CanAt, IsPlan, AreControls};
@@ -54,7 +54,8 @@ fn note_takers(leads: &[Lead], line: u64, noted: &mut BTreeSet<usize>) -> Result
 
 /// The least node of those noted that can fire. Those before it are noted no more.
 fn noted_step(steps: &[Step], state: &FireState, noted: &mut BTreeSet<usize>) -> Option<usize>
-    ensures { IfSome result (CanAt state.now steps.now) }
+    ensures some { IfSome result (CanAt state.now steps.now) }
+    ensures within { IfSome result (λ at. at < length steps.now) }
 {
     for _ in 0..noted.len() {
         let at = noted.pop_first()?;
@@ -68,8 +69,9 @@ fn noted_step(steps: &[Step], state: &FireState, noted: &mut BTreeSet<usize>) ->
 }
 
 /// The least node that can fire.
-fn least_step(steps: &[Step], state: &FireState) -> Option<usize>
+pub(crate) fn least_step(steps: &[Step], state: &FireState) -> Option<usize>
     ensures some { IfSome result (CanAt state.now steps.now) }
+    ensures within { IfSome result (λ at. at < length steps.now) }
     ensures none { IfNone result (list_any (step_can state.now) steps.now ≡ false) }
 {
     for at in 0..steps.len() {
@@ -82,6 +84,7 @@ fn least_step(steps: &[Step], state: &FireState) -> Option<usize>
 
 fn next_step(steps: &[Step], state: &FireState, noted: &mut BTreeSet<usize>) -> Option<usize>
     ensures some { IfSome result (CanAt state.now steps.now) }
+    ensures within { IfSome result (λ at. at < length steps.now) }
     ensures none { IfNone result (list_any (step_can state.now) steps.now ≡ false) }
 {
     match noted_step(steps, state, noted) {
@@ -91,7 +94,7 @@ fn next_step(steps: &[Step], state: &FireState, noted: &mut BTreeSet<usize>) -> 
 }
 
 /// The nodes of the VI that runs.
-fn steps_of(alloc: Global, h: &Hierarchy) -> Result<List<Step>, AllocError>
+pub(crate) fn steps_of(alloc: Global, h: &Hierarchy) -> Result<List<Step>, AllocError>
     requires { IsForm h.now }
     ensures { IfOk result (λ steps. IsPlan (program h.now) steps) }
 {

@@ -44,3 +44,14 @@ pub struct FireState {
     /// The shared objects by number: the panel of data space 0.
     pub objects: List<Content>,
 }
+
+/// How a run stands in a state.
+#[derive(Clone, Copy, Debug, PartialEq, Eq)]
+pub enum End {
+    /// Nothing can fire, and all nodes of frame 0 are done.
+    Complete,
+    /// Nothing can fire, and some node of frame 0 isn't done.
+    Stalled,
+    /// Some node can fire.
+    Unfinished,
+}

@@ -18,6 +18,22 @@ loop-init c =
       long = ap length c.new-trace.ensures.items;
     }
 
+pub fire-requires-clause-can : goal.fire-requires-clause-can
+fire-requires-clause-can c = can_step c.loop.state c.as_slice-steps.result.now c.in-Some.at c.in-Some.ensures.some c.index-steps-at.result c.index-steps-at.is
+
+pub fire-requires-clause-plain : goal.fire-requires-clause-plain
+fire-requires-clause-plain c =
+    let steps = c.as_slice-steps.result.now in
+    let plan = subst (IsPlan (program c.args.h.now)) (sym c.as_slice-steps.ensures) c.in_ok-steps.ensures in
+    plain_step steps c.in-Some.at c.index-steps-at.result plan.plain (is_step c.loop.state steps c.in-Some.at c.in-Some.ensures.some c.index-steps-at.result c.index-steps-at.is)
+
+pub returns-in_default-clause-rest : goal.returns-in_default-clause-rest
+returns-in_default-clause-rest c =
+    let p = program c.args.h.now in
+    let steps = c.as_slice-steps.result.now in
+    let plan = subst (IsPlan p) (sym c.as_slice-steps.ensures) c.in_ok-steps.ensures in
+    rests p steps plan c.loop.state c.loop.invariant.frames c.in_default.ensures.none
+
 pub loop-preserved : goal.loop-preserved
 loop-preserved c =
     let p = program c.args.h.now in

@@ -11,5 +11,5 @@ returns c =
     let names = c.in_ok-names.names in
     if_ok c.plan.result (λ steps. steps ≡ map (step_of (named names)) (entries_of c.index-as_slice-0.result)) _
     (λ steps e. is_plan c.args.h.now c.requires.vi c.requires.one c.requires.form names (c.in_ok-names.ensures ∙ ap table_of vi_is)
-      steps (e ∙ ap (λ v. map (step_of (named names)) (entries_of v)) vi_is))
+    steps (e ∙ ap (λ v. map (step_of (named names)) (entries_of v)) vi_is))
     c.plan.ensures

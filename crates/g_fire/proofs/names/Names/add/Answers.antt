@@ -12,5 +12,5 @@ pub returns : goal.returns
 returns c =
     ap table c.in_ok-insert.ensures.entries
     ∙ add_name-absent c.args.name c.args.source c.self.inside.map.entries
-      (ap (λ es. is_some (named es c.args.name.now)) c.self.view_is ∙ ap is_some (sym c.find.ensures) ∙ sym c.is_some.ensures ∙ c.if-is_some.false)
+    (ap (λ es. is_some (named es c.args.name.now)) c.self.view_is ∙ ap is_some (sym c.find.ensures) ∙ sym c.is_some.ensures ∙ c.if-is_some.false)
     ∙ ap (λ es. add_name es c.args.name.now c.args.source) c.self.view_is

@@ -23,5 +23,5 @@ pub returns-in-Show-len1 : goal.returns-in-Show-len1
 returns-in-Show-len1 c =
     subst (λ t. OnOk c.show.result (c.show.new.self ≡ t))
     (show_fired c.args.self.now c.args.step.now c.in-Show-len1.ty c.in-Show-len1.is-0 c.requires.can c.as_slice.result.now c.as_slice.ensures c.in-Show-len1.len_at_least
-      c.coerce.result (c.coerce.ensures ∙ ap (λ v. coerced v c.in-Show-len1.ty) c.number_of-x.ensures.value))
+    c.coerce.result (c.coerce.ensures ∙ ap (λ v. coerced v c.in-Show-len1.ty) c.number_of-x.ensures.value))
     c.show.ensures

@@ -1,0 +1,14 @@
+//! Laws of every run.
+
+ghost use Rattle.g_fire.specs.Laws.{Composes, CountsOne, RefusesExactly, RestsExactly, ValuesStay};
+
+/// Runs compose, a value never changes, a firing is one more firing done, a state is at rest exactly
+/// where no firing can fire, and the first firing that can't is there exactly where a trace isn't
+/// allowed.
+pub fn run_laws()
+    ensures composes { Composes }
+    ensures values { ValuesStay }
+    ensures counts { CountsOne }
+    ensures rests { RestsExactly }
+    ensures refuses { RefusesExactly }
+{}
