@@ -1,5 +1,5 @@
 -- What is printed spells the value.
-use Rattle.std.proofs.Common.{◌≡◌, ℕ, zero, suc, ◌+◌, ◌-◌, ◌<◌, ◌≤◌, ◌^◌, Bool, true, false, ◌&&◌, List, [], ◌∷◌, ◌++◌, length, map, Option, Some, None, codes, ℤ, pos, negsuc, neg_ℤ, ◌≤ℤ◌, ◌<ℤ◌, ◌-ℤ◌, T, refl, sym, ap, ◌∙◌, arith, subst, append_assoc, get_or}
+use Rattle.std.proofs.Common.{◌≡◌, ℕ, ◌-◌, ◌<◌, ◌≤◌, ◌^◌, Bool, true, false, List, [], ◌∷◌, ◌++◌, length, map, Option, Some, None, codes, ℤ, pos, negsuc, neg_ℤ, ◌≤ℤ◌, ◌<ℤ◌, ◌-ℤ◌, T, refl, sym, ap, ◌∙◌, arith, subst, append_assoc, get_or}
 use Rattle.std.specs.Prelude.{IsTrue, is_none, nat_le}
 use Rattle.std.specs.List.{list_all, All}
 use Rattle.std.specs.Fmt.{signed_decimal}
@@ -12,7 +12,7 @@ use Rattle.std.proofs.lemmas.Int.{ints}
 use Rattle.std.proofs.lemmas.List.{append-nil}
 use Rattle.std.proofs.lemmas.List.Elements.{All-head, All-tail, All-map, All-same}
 use Rattle.std.proofs.lemmas.Simd.{map-map}
-use Rattle.g_grammar.specs.Grammar.{Grammar, give, take, Has, ◌>>=◌}
+use Rattle.g_grammar.specs.Grammar.{Grammar, give, Has}
 use Rattle.g_tokens.specs.declared.token.Token.{Token}
 use Rattle.g_tokens.specs.declared.token.Token.TheVariants as token
 use Rattle.g_tokens.specs.declared.token.Mark.TheVariants as mark
@@ -22,7 +22,7 @@ use Rattle.g_types.specs.Rep.{wrap, size, half, InRange}
 use Rattle.g_types.specs.declared.ty.Ty.{Ty, out-Ty}
 use Rattle.g_types.specs.declared.ty.Ty.TheVariants as ty
 use Rattle.g_types.specs.declared.ty.Ty.TheOpen.{Ty-F}
-use Rattle.g_types.specs.Ty.{joined, is_num, is_num_at}
+use Rattle.g_types.specs.Ty.{joined, is_num_at}
 use Rattle.g_values.specs.declared.num.Num.{Num}
 use Rattle.g_values.specs.declared.value.ArrOf.{ArrOf}
 use Rattle.g_values.specs.declared.value.RefValue.{RefValue}
@@ -41,36 +41,36 @@ use Rattle.g_values.proofs.ProperLemmas.{whole-in_cluster}
 use Rattle.g_values.proofs.TextLemmas.{text-Num, text-Bool, text-Str, text-Nums, text-Arr, text-Cluster, text-Queue, text-Cell}
 use Rattle.g_valtext.specs.Forms.{Form, Number, Truth, Text, Numbers, Items, Parts, Null, form, forms_of, items_of, rep_of}
 use Rattle.g_valtext.specs.Plain.{is_byte, is_plain, plain_step}
-use Rattle.g_valtext.specs.Spellings.{first_of, rest_of, of_form, values, grammars, number, number_within, is_within, array_rest, parts, tokens, IsSpelling}
-use Rattle.g_valtext.proofs.Pieces.{Bound, Cut, IsShort, finish, mark_piece, word_piece, number_piece, text_piece}
+use Rattle.g_valtext.specs.Spellings.{first_of, rest_of, of_form, values, grammars, number, number_within, is_within, parts, tokens, IsSpelling}
+use Rattle.g_valtext.proofs.Pieces.{IsShort, finish, mark_piece, word_piece, number_piece, text_piece}
 use Rattle.g_valtext.proofs.Ranges.{kept, half_below}
 use Rattle.g_valtext.proofs.Spoken.{Spoken, Says, AllSay, Speak, array_says, parts_say}
 use Rattle.g_valtext.proofs.Steps.{form-Num, form-Bool, form-Str, form-Arr, form-Cluster, form-QueueRef, form-ValueRef, grammars-of}
 
 -- ---- types and plainness, by the variants
 
-type-Num : (x : Num) → type_of (value.Num x) ≡ ty.Num x.rep
+pub type-Num : (x : Num) → type_of (value.Num x) ≡ ty.Num x.rep
 type-Num x = ap type_of (sym (value.rolls-Num x)) ∙ fold-roll-Value Ty type_step (Value-F.Num x)
 
-type-Bool : (b : Bool) → type_of (value.Bool b) ≡ ty.Bool
+pub type-Bool : (b : Bool) → type_of (value.Bool b) ≡ ty.Bool
 type-Bool b = ap type_of (sym (value.rolls-Bool b)) ∙ fold-roll-Value Ty type_step (Value-F.Bool b)
 
-type-Str : (s : List ℕ) → type_of (value.Str s) ≡ ty.Str
+pub type-Str : (s : List ℕ) → type_of (value.Str s) ≡ ty.Str
 type-Str s = ap type_of (sym (value.rolls-Str s)) ∙ fold-roll-Value Ty type_step (Value-F.Str s)
 
-type-Nums : (xs : Several) → type_of (value.Nums xs) ≡ ty.Arr (ty.Num xs.rep)
+pub type-Nums : (xs : Several) → type_of (value.Nums xs) ≡ ty.Arr (ty.Num xs.rep)
 type-Nums xs = ap type_of (sym (value.rolls-Nums xs)) ∙ fold-roll-Value Ty type_step (Value-F.Nums xs)
 
-type-Arr : (xs : ArrOf Value) → type_of (value.Arr xs) ≡ ty.Arr xs.elem
+pub type-Arr : (xs : ArrOf Value) → type_of (value.Arr xs) ≡ ty.Arr xs.elem
 type-Arr xs = ap type_of (sym (value.rolls-Arr xs)) ∙ fold-roll-Value Ty type_step (Value-F.Arr xs)
 
-type-Cluster : (vs : List Value) → type_of (value.Cluster vs) ≡ ty.Cluster (map type_of vs)
+pub type-Cluster : (vs : List Value) → type_of (value.Cluster vs) ≡ ty.Cluster (map type_of vs)
 type-Cluster vs = ap type_of (sym (value.rolls-Cluster vs)) ∙ fold-roll-Value Ty type_step (Value-F.Cluster vs)
 
-type-Queue : (r : RefValue) → type_of (value.Queue r) ≡ ty.QueueRef r.elem
+pub type-Queue : (r : RefValue) → type_of (value.Queue r) ≡ ty.QueueRef r.elem
 type-Queue r = ap type_of (sym (value.rolls-Queue r)) ∙ fold-roll-Value Ty type_step (Value-F.Queue r)
 
-type-Cell : (r : RefValue) → type_of (value.Cell r) ≡ ty.ValueRef r.elem
+pub type-Cell : (r : RefValue) → type_of (value.Cell r) ≡ ty.ValueRef r.elem
 type-Cell r = ap type_of (sym (value.rolls-Cell r)) ∙ fold-roll-Value Ty type_step (Value-F.Cell r)
 
 plain-Str : (s : List ℕ) → is_plain (value.Str s) ≡ list_all is_byte s

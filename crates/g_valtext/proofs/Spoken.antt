@@ -1,26 +1,13 @@
 -- The text of a value spells it.
-use Rattle.std.proofs.Common.{◌≡◌, ℕ, zero, suc, ◌+◌, ◌-◌, ◌<◌, ◌≤◌, ◌^◌, Bool, true, false, ◌&&◌, List, [], ◌∷◌, ◌++◌, length, map, Option, Some, None, codes, ℤ, pos, negsuc, neg_ℤ, ◌≤ℤ◌, ◌<ℤ◌, ◌-ℤ◌, refl, sym, ap, ◌∙◌, arith, subst, append_assoc, inl, inr, ◌⊎◌}
-use Rattle.std.specs.Prelude.{is_none, nat_le}
-use Rattle.std.specs.List.{list_all, All}
-use Rattle.std.specs.Option.{option_map}
-use Rattle.std.specs.Fmt.{signed_decimal}
-use Rattle.std.specs.Int.Signed.{le_z}
-use Rattle.std.proofs.Math.Dec.{T_prop}
-use Rattle.std.proofs.lemmas.Bool.{and_parts}
-use Rattle.std.proofs.lemmas.Bool.Decides.{nat_tests}
-use Rattle.std.proofs.lemmas.Int.{ints}
-use Rattle.std.proofs.lemmas.List.Elements.{All-nil, All-cons, All-head, All-tail, All-map, All-same}
-use Rattle.g_grammar.specs.Grammar.{Grammar, take, first, tail, Has, or_else, ◌>>=◌}
+use Rattle.std.proofs.Common.{◌≡◌, ℕ, zero, suc, ◌≤◌, true, false, List, [], ◌∷◌, ◌++◌, length, map, Option, Some, None, refl, sym, ap, ◌∙◌, arith, subst, append_assoc, inl, inr, ◌⊎◌}
+use Rattle.g_grammar.specs.Grammar.{Grammar, take, first, Has, or_else, ◌>>=◌}
 use Rattle.g_tokens.specs.declared.token.Token.{Token}
 use Rattle.g_tokens.specs.declared.token.Token.TheVariants as token
 use Rattle.g_tokens.specs.declared.token.Mark.TheVariants as mark
-use Rattle.g_types.specs.declared.rep.Rep.{Rep}
-use Rattle.g_types.specs.declared.ty.Ty.{Ty}
 use Rattle.g_types.specs.Ty.{after, joined}
 use Rattle.g_values.specs.declared.value.Value.{Value}
 use Rattle.g_values.specs.Text.{text}
-use Rattle.g_valtext.specs.Forms.{Form}
-use Rattle.g_valtext.specs.Spellings.{close_bracket, comma_or_bracket, turn, after_turn, further, from_first, array_rest, most_further, part, parts, parts_after}
+use Rattle.g_valtext.specs.Spellings.{close_bracket, further, array_rest, most_further, parts, parts_after}
 use Rattle.g_valtext.proofs.Pieces.{Bound, Cut, space, mark_piece}
 
 -- bytes with tokens of which the first are a phrase

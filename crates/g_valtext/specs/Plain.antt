@@ -1,5 +1,5 @@
 -- Values that their text tells: no reference is live. Bytes and numbers are within their ranges, as those of a program's values are.
-use Rattle.std.specs.Prelude.{ℕ, Bool, true, nat_lt, List, is_none}
+use Rattle.std.specs.Prelude.{ℕ, Bool, true, nat_lt, is_none}
 use Rattle.std.specs.List.{list_all}
 use Rattle.g_values.specs.declared.value.Value.{Value, fold-Value}
 use Rattle.g_values.specs.declared.value.Value.TheOpen.{Value-F}

@@ -11,6 +11,7 @@ ghost use Rattle.g_valtext.specs.Plain.{is_plain};
 ghost use Rattle.g_valtext.specs.Reads.{GivesAll};
 ghost use Rattle.g_valtext.specs.Refused.{IsCause, IsMemory};
 ghost use Rattle.g_valtext.specs.Spellings.{IsSpelling, values};
+ghost use Rattle.g_valtext.specs.Types.{IsType};
 
 use crate::read::value;
 use g_grammar::Stop;
@@ -60,6 +61,8 @@ fn place_at(places: &[usize], index: usize, end: usize) -> usize
 /// than 4,194,304, is of no type.
 pub fn read_value(alloc: Global, ty: &Ty, text: &[u8]) -> Result<Value, ValueRefused>
     ensures spelled { IfOk result (IsSpelling ty.now text.now) }
+    ensures typed { IfOk result (λ v. type_of v ≡ ty.now) }
+    ensures proper { IfOk result (λ v. IsType ty.now → IsProper v) }
 
     // What the text spells is read, unless memory is wanting.
     ensures only { (v : Item) → IsSpelling ty.now text.now v → MatchResult result (λ w. w ≡ v) IsMemory }
