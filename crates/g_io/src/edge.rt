@@ -14,6 +14,7 @@ pub struct StdinSource<R> {
 }
 
 impl<R: Read> StdinSource<R> {
+    /// A source over a reader, with no error counted yet.
     pub fn new(inner: R) -> Self {
         StdinSource { inner, faults: 0 }
     }
@@ -44,6 +45,7 @@ pub struct StdoutSink<W> {
 }
 
 impl<W: Write> StdoutSink<W> {
+    /// A sink over a writer, with no error counted yet.
     pub fn new(inner: W) -> Self {
         StdoutSink { inner, faults: 0 }
     }

@@ -21,6 +21,7 @@ impl Model for Remainder {
 }
 
 impl Remainder {
+    /// All of the bytes.
     pub fn new(bytes: Bytes) -> Self
         ensures { result ≡ bytes }
     {

@@ -2,7 +2,7 @@
 use Rattle.std.proofs.Common.{◌≡◌, ℕ, ◌-◌, ◌≤◌, List, [], length, refl, ap, sym, subst, ◌∙◌, arith, length-append}
 use Rattle.std.specs.Prelude.{Result, Ok, Err}
 use Rattle.std.specs.List.{slice_index_or}
-use Rattle.g_grammar.specs.Grammar.{Has, Read, read, all_read, IsRefused}
+use Rattle.g_grammar.specs.Grammar.{Has, read, all_read, IsRefused}
 use Rattle.g_grammar.proofs.Laws.{again}
 use Rattle.g_grammar.proofs.Live.{all_ok, all_err}
 use Rattle.g_tokens.specs.declared.token.Token.{Token}

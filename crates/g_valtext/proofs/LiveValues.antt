@@ -12,7 +12,7 @@ use Rattle.g_values.specs.declared.value.Value.{Value}
 use Rattle.g_values.specs.declared.value.Value.TheVariants as value
 use Rattle.g_values.specs.Number.{num_of}
 use Rattle.g_valtext.specs.Forms.{Form, Forms, Number, Truth, Text, Numbers, Items, Parts, Null, none, also, form}
-use Rattle.g_valtext.specs.Spellings.{First, first_of, rest_of, of_form, values, grammars, number_within, close_bracket, comma_or_bracket, turn, turn_rest, after_turn, further, from_first, array_rest, most_further, part, parts, parts_after}
+use Rattle.g_valtext.specs.Spellings.{First, first_of, rest_of, values, grammars, number_within, close_bracket, comma_or_bracket, turn, turn_rest, after_turn, further, from_first, array_rest, most_further, parts, parts_after}
 
 -- ---- arrays
 

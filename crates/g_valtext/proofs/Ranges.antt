@@ -1,5 +1,5 @@
 -- Numbers within the range of their representation.
-use Rattle.std.proofs.Common.{◌≡◌, ◌≤◌, ◌<◌, ℕ, zero, suc, ◌+◌, ◌-◌, ◌*◌, ◌%◌, ◌^◌, ℤ, pos, negsuc, neg_ℤ, ◌+ℤ◌, ◌-ℤ◌, ◌≤ℤ◌, Bool, true, false, ◌&&◌, refl, ap, sym, ◌∙◌, arith}
+use Rattle.std.proofs.Common.{◌≡◌, ◌≤◌, ◌<◌, ℕ, ◌+◌, ◌-◌, ◌%◌, ℤ, pos, negsuc, neg_ℤ, ◌+ℤ◌, ◌-ℤ◌, ◌≤ℤ◌, Bool, true, false, ◌&&◌, refl, ap, ◌∙◌, arith}
 use Rattle.std.proofs.lemmas.Int.{ints, int_rem_euclid_is}
 use Rattle.std.proofs.lemmas.Float.{T_from_true}
 use Rattle.std.specs.Int.Signed.{le_z, le_z_yes}
@@ -26,7 +26,7 @@ in_place (negsuc a) s h small lt low high =
     let e = int_rem_euclid_is (negsuc a +ℤ pos h) (pos s) s 0 (h - (a + 1)) (omega arith) refl (omega (arith, ints)) in
     ap (λ x. x -ℤ pos h) (e ∙ ap pos (small (h - (a + 1)) (omega arith))) ∙ omega (arith, ints)
 
-half_below : (r : Rep) → half r < size r
+pub half_below : (r : Rep) → half r < size r
 half_below I8 = omega arith
 half_below I16 = omega arith
 half_below I32 = omega arith

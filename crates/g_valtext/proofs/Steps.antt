@@ -1,8 +1,8 @@
 -- Reading, one step at a time.
-use Rattle.std.proofs.Common.{◌≡◌, Bor, ℕ, zero, suc, ◌+◌, ◌-◌, ◌<◌, ℤ, Bool, true, false, List, [], ◌∷◌, ◌++◌, map, Option, Some, None, refl, sym, ap, subst, ◌∙◌, arith, append_assoc, inl, inr, ◌⊎◌}
-use Rattle.std.specs.Prelude.{Result, Ok, Err}
+use Rattle.std.proofs.Common.{◌≡◌, Bor, ℤ, List, [], ◌∷◌, map, Option, Some, None, refl, sym, ap, subst, ◌∙◌}
+use Rattle.std.specs.Prelude.{Result, Ok}
 use Rattle.std.specs.Option.{option_map}
-use Rattle.g_grammar.specs.Grammar.{Grammar, give, take, first, tail, Read, then, taken, read, either, or_else, ◌>>=◌}
+use Rattle.g_grammar.specs.Grammar.{give, take, first, Read, then, taken, read}
 use Rattle.g_grammar.specs.Reads.{Gives, Stops}
 use Rattle.g_grammar.specs.declared.Stop.{Stop}
 use Rattle.g_tokens.specs.declared.token.Token.{Token}
@@ -16,8 +16,8 @@ use Rattle.g_values.specs.declared.value.Value.TheVariants as value
 use Rattle.g_values.specs.Number.{num_of}
 use Rattle.g_values.specs.Numbers.{Numbers as Several}
 use Rattle.g_valtext.proofs.Turns.{stop_at}
-use Rattle.g_valtext.specs.Forms.{Form, Forms, Number, Truth, Text, Numbers, Items, Parts, Null, none, also, form, form_step, forms_of, items_of, rep_of}
-use Rattle.g_valtext.specs.Spellings.{First, first_of, rest_of, of_form, values, grammars, number, number_within, truth, text_within, null, open_bracket, open_brace, close_bracket, close_brace, comma, comma_or_bracket, array_rest, further, most_further, parts, parts_after, from_first}
+use Rattle.g_valtext.specs.Forms.{Form, Forms, Number, Truth, Text, Numbers, Items, Parts, Null, form, form_step, forms_of, items_of, rep_of}
+use Rattle.g_valtext.specs.Spellings.{first_of, rest_of, of_form, values, grammars, number, number_within, truth, text_within, null, open_bracket, open_brace, array_rest, parts}
 
 -- ---- forms of types, by the types' variants
 

@@ -1,8 +1,8 @@
 -- What the loops over the further items of an array and the further parts of a cluster keep.
-use Rattle.std.proofs.Common.{◌≡◌, ℕ, zero, suc, ◌+◌, ◌-◌, ◌<◌, ◌≤◌, List, [], ◌∷◌, ◌++◌, map, length, drop, get_or, Option, Some, None, refl, sym, ap, subst, ◌∙◌, arith, append_assoc, inl, inr, ◌⊎◌}
+use Rattle.std.proofs.Common.{◌≡◌, ℕ, suc, ◌+◌, ◌-◌, ◌<◌, ◌≤◌, List, [], ◌∷◌, ◌++◌, map, length, drop, get_or, Option, Some, None, refl, sym, ap, subst, ◌∙◌, arith, append_assoc}
 use Rattle.std.proofs.lemmas.List.{append-nil, drop_more, drop_all}
 use Rattle.std.specs.Prelude.{Ok, Err}
-use Rattle.g_grammar.specs.Grammar.{Grammar, give, take, first, Read, then, taken, read, either, or_else, ◌>>=◌}
+use Rattle.g_grammar.specs.Grammar.{Grammar, take, first, Read, then, taken, read, either, ◌>>=◌}
 use Rattle.g_grammar.proofs.Laws.{ok_is, parts as pair}
 use Rattle.g_grammar.specs.Reads.{Stops, with_front}
 use Rattle.g_grammar.specs.declared.Stop.{Stop}

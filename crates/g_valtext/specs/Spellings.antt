@@ -1,6 +1,6 @@
 -- The grammar of the texts of values: which tokens spell which value of a type. A number is within the range of its type; an array has no
 -- more elements and a text no more bytes than the limit; of references only the null reference is spelled.
-use Rattle.std.specs.Prelude.{◌≡◌, ℕ, zero, suc, ◌-◌, ℤ, pos, neg_ℤ, ◌-ℤ◌, int_le, int_lt, nat_le, Bool, true, false, ◌&&◌, List, [], ◌∷◌, map, length, Option, Some, None, codes, ◌⊎◌, if◌then◌else◌}
+use Rattle.std.specs.Prelude.{◌≡◌, ℕ, zero, suc, ◌-◌, ℤ, pos, neg_ℤ, int_le, nat_le, Bool, true, false, ◌&&◌, List, [], ◌∷◌, map, length, Option, Some, None, codes, ◌⊎◌, if◌then◌else◌}
 use Rattle.std.specs.List.{slice_index_or}
 use Rattle.std.specs.Option.{option_map}
 use Rattle.std.specs.Str.{bytes_eq}
@@ -9,7 +9,6 @@ use Rattle.g_grammar.specs.Grammar.{Grammar, give, take, Has, IsRefused, or_else
 use Rattle.g_tokens.specs.Tokens.{lexemes}
 use Rattle.g_tokens.specs.declared.token.Token.{Token}
 use Rattle.g_tokens.specs.declared.token.Token.TheVariants as token
-use Rattle.g_tokens.specs.declared.token.Mark.{Mark}
 use Rattle.g_tokens.specs.declared.token.Mark.TheVariants as mark
 use Rattle.g_types.specs.declared.rep.Rep.{Rep}
 use Rattle.g_types.specs.declared.ty.Ty.{Ty}

@@ -1,12 +1,17 @@
 //! Reading a value's text.
 
-ghost use Rattle.std.specs.Prelude.{◌≡◌, IfOk, IfErr, MatchResult};
+ghost use Rattle.std.specs.Prelude.{◌≡◌, IfOk, IfErr, IsTrue, MatchResult};
 ghost use Rattle.std.specs.List.{slice_index_or};
 ghost use Rattle.g_grammar.specs.Grammar.{all_read, read};
 ghost use Rattle.g_values.specs.declared.value.Value.{Value as Item};
+ghost use Rattle.g_values.specs.Proper.{IsProper};
+ghost use Rattle.g_values.specs.Text as printed;
+ghost use Rattle.g_values.specs.Value.{type_of};
+ghost use Rattle.g_valtext.specs.Plain.{is_plain};
 ghost use Rattle.g_valtext.specs.Reads.{GivesAll};
 ghost use Rattle.g_valtext.specs.Refused.{IsCause, IsMemory};
 ghost use Rattle.g_valtext.specs.Spellings.{IsSpelling, values};
+ghost use Rattle.g_valtext.specs.Types.{IsType};
 
 use crate::read::value;
 use g_grammar::Stop;
@@ -56,9 +61,14 @@ fn place_at(places: &[usize], index: usize, end: usize) -> usize
 /// than 4,194,304, is of no type.
 pub fn read_value(alloc: Global, ty: &Ty, text: &[u8]) -> Result<Value, ValueRefused>
     ensures spelled { IfOk result (IsSpelling ty.now text.now) }
+    ensures typed { IfOk result (λ v. type_of v ≡ ty.now) }
+    ensures proper { IfOk result (λ v. IsType ty.now → IsProper v) }
 
     // What the text spells is read, unless memory is wanting.
     ensures only { (v : Item) → IsSpelling ty.now text.now v → MatchResult result (λ w. w ≡ v) IsMemory }
+
+    // So what was printed is read back, where no reference in it is live.
+    ensures back { (v : Item) → IsProper v → IsTrue (is_plain v) → type_of v ≡ ty.now → text.now ≡ printed.text v → MatchResult result (λ w. w ≡ v) IsMemory }
     ensures refused { IfErr result (IsCause ty.now text.now) }
 {
     let found = match text_tokens(alloc, text) {

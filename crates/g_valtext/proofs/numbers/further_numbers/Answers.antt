@@ -1,4 +1,4 @@
-use Rattle.std.proofs.Common.{◌≡◌, List, ap, ◌∙◌, ◌++◌, ◌∷◌, [], ◌+◌, ◌-◌}
+use Rattle.std.proofs.Common.{List, ap, ◌∙◌, ◌+◌, ◌-◌}
 use Rattle.g_grammar.specs.Grammar.{read}
 use Rattle.g_grammar.specs.Reads.{with_front}
 use Rattle.g_values.specs.Numbers.{Numbers}

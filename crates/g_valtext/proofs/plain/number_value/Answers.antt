@@ -1,4 +1,4 @@
-use Rattle.std.proofs.Common.{refl, ap, sym, ◌∙◌}
+use Rattle.std.proofs.Common.{ap, sym, ◌∙◌}
 use Rattle.std.specs.Prelude.{Ok}
 use Rattle.g_grammar.specs.Grammar.{then}
 use Rattle.g_values.specs.declared.value.Value.TheVariants as value

@@ -6,7 +6,7 @@ use Rattle.g_types.specs.declared.ty.Ty.{out-Ty}
 use Rattle.g_types.specs.declared.ty.Ty.TheVariants as ty
 use Rattle.g_values.specs.declared.value.Value.{Value}
 use Rattle.g_values.specs.declared.value.Value.TheVariants as value
-use Rattle.g_valtext.specs.Forms.{form, rep_of, Number, Truth, Text}
+use Rattle.g_valtext.specs.Forms.{form, rep_of, Truth, Text}
 use Rattle.g_valtext.specs.Spellings.{values, further, most_further, first_of, rest_of, part, parts_after}
 use Rattle.g_valtext.proofs.Steps.{by_form, by_elements, form-Num, form-Bool, form-Str, form-Arr, form-Cluster, form-QueueRef, form-ValueRef, items_ok, items_stop, cluster_ok, cluster_stop, cluster_refused}
 use Rattle.g_valtext.proofs.Turns.{further_more, further_last, further_stops, further_end, further_end_stops, array_closes, array_begins, array_stops, parts_begin, parts_begin_stops, types_more, types_stops, types_end, types_end_stops}

@@ -1,4 +1,4 @@
-use Rattle.std.proofs.Common.{◌≡◌, ◌-◌, ◌<◌, map, drop}
+use Rattle.std.proofs.Common.{◌≡◌, ◌-◌, map, drop}
 use Rattle.g_grammar.specs.Grammar.{read}
 use Rattle.g_grammar.specs.Reads.{with_front}
 use Rattle.g_valtext.specs.Spellings.{further, values, most_further, parts, parts_after}
