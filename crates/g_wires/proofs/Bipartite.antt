@@ -107,11 +107,11 @@ module _ (lines : ℕ) (cs : List Coded) (nodes : All (NodeBelow lines) cs) wher
   wired : (a b : ℕ) → coded_wire cs a b ≡ true → Wired lines a b cs
   wired a b h =
       let s : Found (NodeBelow lines) (λ s. s.is_source && list_any (coded_feeds a b s) (filter (λ c. not c.is_source) cs)) cs =
-          found (NodeBelow lines) (λ s. s.is_source && list_any (coded_feeds a b s) (filter (λ c. not c.is_source) cs)) cs nodes
-              (sym (any_filter (λ s. list_any (coded_feeds a b s) (filter (λ c. not c.is_source) cs)) (λ s. s.is_source) cs) ∙ h) in
+      found (NodeBelow lines) (λ s. s.is_source && list_any (coded_feeds a b s) (filter (λ c. not c.is_source) cs)) cs nodes
+      (sym (any_filter (λ s. list_any (coded_feeds a b s) (filter (λ c. not c.is_source) cs)) (λ s. s.is_source) cs) ∙ h) in
       let inner = and_right s.item.is_source (list_any (coded_feeds a b s.item) (filter (λ c. not c.is_source) cs)) s.passes in
       let c : Found (NodeBelow lines) (λ c. not c.is_source && coded_feeds a b s.item c) cs =
-          found (NodeBelow lines) (λ c. not c.is_source && coded_feeds a b s.item c) cs nodes (sym (any_filter (coded_feeds a b s.item) (λ c. not c.is_source) cs) ∙ inner) in
+      found (NodeBelow lines) (λ c. not c.is_source && coded_feeds a b s.item c) cs nodes (sym (any_filter (coded_feeds a b s.item) (λ c. not c.is_source) cs) ∙ inner) in
       let feeds = and_right (not c.item.is_source) (coded_feeds a b s.item c.item) c.passes in
       let ends = and_left (is_number s.item.node a && is_number c.item.node b) (same_number_of s.item.wire c.item.wire) feeds in
       let one : Shared s.item.wire c.item.wire = shared s.item.wire c.item.wire (and_right (is_number s.item.node a && is_number c.item.node b) (same_number_of s.item.wire c.item.wire) feeds) in
@@ -134,8 +134,8 @@ module _ (lines : ℕ) (cs : List Coded) (nodes : All (NodeBelow lines) cs) wher
   two_edges : (a b : ℕ) → coded_wire cs a b ≡ true → Leads step a b
   two_edges a b h = let w : Wired lines a b cs = wired a b h in
       one_more step a (lines + w.number) b
-          (one_step step a (lines + w.number) (w.has_source (is_edge lines a (lines + w.number)) (source_edge lines a w.number w.source.is_source w.source.node w.source.wire w.is_source w.source_node w.source_wire)))
-          (w.has_consumer (is_edge lines (lines + w.number) b) (consumer_edge lines b w.number w.consumer.is_source w.consumer.node w.consumer.wire w.is_consumer w.consumer_node w.consumer_wire))
+      (one_step step a (lines + w.number) (w.has_source (is_edge lines a (lines + w.number)) (source_edge lines a w.number w.source.is_source w.source.node w.source.wire w.is_source w.source_node w.source_wire)))
+      (w.has_consumer (is_edge lines (lines + w.number) b) (consumer_edge lines b w.number w.consumer.is_source w.consumer.node w.consumer.wire w.is_consumer w.consumer_node w.consumer_wire))
 
   to_edges : (n a b : ℕ) → Walk (coded_wire cs) n a b → Leads step a b
   to_edges zero a b w = two_edges a b w
@@ -176,10 +176,10 @@ module _ (lines : ℕ) (cs : List Coded) (nodes : All (NodeBelow lines) cs) wher
       → c.is_source ≡ false → c.node ≡ Some b → c.wire ≡ Some v → ((f : Coded → Bool) → f c ≡ true → list_any f cs ≡ true) → coded_wire cs a b ≡ true
   one_wire a b v s c es en ew hs fc fn fw hc =
       let feeds : coded_feeds a b s c ≡ true = and_both (is_number s.node a && is_number c.node b) (same_number_of s.wire c.wire)
-          (and_both (is_number s.node a) (is_number c.node b) (is_number_is s.node a en) (is_number_is c.node b fn)) (share s.wire c.wire v ew fw) in
+      (and_both (is_number s.node a) (is_number c.node b) (is_number_is s.node a en) (is_number_is c.node b fn)) (share s.wire c.wire v ew fw) in
       let inner : list_any (coded_feeds a b s) (filter (λ c. not c.is_source) cs) ≡ true =
-          any_filter (coded_feeds a b s) (λ c. not c.is_source) cs
-          ∙ hc (λ c. not c.is_source && coded_feeds a b s c) (and_both (not c.is_source) (coded_feeds a b s c) (ap not fc) feeds) in
+      any_filter (coded_feeds a b s) (λ c. not c.is_source) cs
+      ∙ hc (λ c. not c.is_source && coded_feeds a b s c) (and_both (not c.is_source) (coded_feeds a b s c) (ap not fc) feeds) in
       any_filter (λ s. list_any (coded_feeds a b s) (filter (λ c. not c.is_source) cs)) (λ s. s.is_source) cs
       ∙ hs (λ s. s.is_source && list_any (coded_feeds a b s) (filter (λ c. not c.is_source) cs)) (and_both s.is_source (list_any (coded_feeds a b s) (filter (λ c. not c.is_source) cs)) es inner)
 
@@ -189,7 +189,7 @@ module _ (lines : ℕ) (cs : List Coded) (nodes : All (NodeBelow lines) cs) wher
       let t : Takes lines c x p.item.is_source p.item.node p.item.wire = from_wire lines c x p.item.is_source p.item.node p.item.wire p.holds le p.passes in
       let r : Reached a t.number = reached t.number t.start in
       let wire : coded_wire cs r.node x ≡ true =
-          one_wire r.node x t.number r.source p.item r.is_source r.source_node r.source_wire r.has_source t.is t.node t.wire p.within in
+      one_wire r.node x t.number r.source p.item r.is_source r.source_node r.source_wire r.has_source t.is t.node t.wire p.within in
       record {
         at_node = λ below. ⊎_elim
             (λ e. let P : ℕ → Type 0 = λ m. Leads (coded_wire cs) m x in subst P e (one_step (coded_wire cs) r.node x wire))

@@ -36,7 +36,7 @@ place_is p q =
     is_eq-then (nat_cmp p.vi q.vi) (ordering_then (nat_cmp p.line q.line) (nat_cmp p.operand q.operand))
     ∙ ap (λ x. x && is_eq (ordering_then (nat_cmp p.line q.line) (nat_cmp p.operand q.operand))) (unsigned_tied p.vi q.vi)
     ∙ ap (λ x. (p.vi == q.vi) && x) (is_eq-then (nat_cmp p.line q.line) (nat_cmp p.operand q.operand)
-        ∙ ap (λ x. x && is_eq (nat_cmp p.operand q.operand)) (unsigned_tied p.line q.line) ∙ ap (λ x. (p.line == q.line) && x) (unsigned_tied p.operand q.operand))
+    ∙ ap (λ x. x && is_eq (nat_cmp p.operand q.operand)) (unsigned_tied p.line q.line) ∙ ap (λ x. (p.line == q.line) && x) (unsigned_tied p.operand q.operand))
 
 break_is : (b c : Break) → is_eq (break_cmp b c) ≡ (((b.place.vi == c.place.vi) && ((b.place.line == c.place.line) && (b.place.operand == c.place.operand))) && (b.rule == c.rule))
 break_is b c = is_eq-then (place_cmp b.place c.place) (nat_cmp b.rule c.rule)
@@ -56,10 +56,10 @@ break_same b c h =
     let places = and_left ((b.place.vi == c.place.vi) && ((b.place.line == c.place.line) && (b.place.operand == c.place.operand))) (b.rule == c.rule) all in
     let rest = and_right (b.place.vi == c.place.vi) ((b.place.line == c.place.line) && (b.place.operand == c.place.operand)) places in
     of_parts b c.place.vi c.place.line c.place.operand c.rule
-        (same_number b.place.vi c.place.vi (and_left (b.place.vi == c.place.vi) ((b.place.line == c.place.line) && (b.place.operand == c.place.operand)) places))
-        (same_number b.place.line c.place.line (and_left (b.place.line == c.place.line) (b.place.operand == c.place.operand) rest))
-        (same_number b.place.operand c.place.operand (and_right (b.place.line == c.place.line) (b.place.operand == c.place.operand) rest))
-        (same_number b.rule c.rule (and_right ((b.place.vi == c.place.vi) && ((b.place.line == c.place.line) && (b.place.operand == c.place.operand))) (b.rule == c.rule) all))
+    (same_number b.place.vi c.place.vi (and_left (b.place.vi == c.place.vi) ((b.place.line == c.place.line) && (b.place.operand == c.place.operand)) places))
+    (same_number b.place.line c.place.line (and_left (b.place.line == c.place.line) (b.place.operand == c.place.operand) rest))
+    (same_number b.place.operand c.place.operand (and_right (b.place.line == c.place.line) (b.place.operand == c.place.operand) rest))
+    (same_number b.rule c.rule (and_right ((b.place.vi == c.place.vi) && ((b.place.line == c.place.line) && (b.place.operand == c.place.operand))) (b.rule == c.rule) all))
 
 itself : (b : Break) → is_eq (break_cmp b b) ≡ true
 itself b = break_is b b ∙ and_both _ _ (and_both _ _ (number_same b.place.vi) (and_both _ _ (number_same b.place.line) (number_same b.place.operand))) (number_same b.rule)
@@ -76,7 +76,7 @@ marked_has vi first [] b h = cc
 marked_has vi first (true ∷ ms) b h = ⊎_elim
     (λ e. record { at = 0; below = omega arith; mark = refl; is = break_same b (line_break vi first) e ∙ ap (line_break vi) (omega arith) })
     (λ e. let r : Marked vi (first + 1) ms b = marked_has vi (first + 1) ms b e in
-        record { at = suc r.at; below = let lt = r.below in omega (arith, lt); mark = r.mark; is = r.is ∙ ap (line_break vi) (omega arith) })
+    record { at = suc r.at; below = let lt = r.below in omega (arith, lt); mark = r.mark; is = r.is ∙ ap (line_break vi) (omega arith) })
     (or_cases (is_eq (break_cmp b (line_break vi first))) (has_break (marked_from vi (first + 1) ms) b) h)
 marked_has vi first (false ∷ ms) b h =
     let r : Marked vi (first + 1) ms b = marked_has vi (first + 1) ms b h in
@@ -92,7 +92,7 @@ marked_is vi first (true ∷ ms) (suc k) lt h =
     let P : ℕ → Type 0 = λ n. has_break (marked_from vi (first + 1) ms) (line_break vi n) ≡ true in
     let e : first + 1 + k ≡ first + suc k = omega arith in
     or_right (is_eq (break_cmp (line_break vi (first + suc k)) (line_break vi first))) (has_break (marked_from vi (first + 1) ms) (line_break vi (first + suc k)))
-        (subst P e (marked_is vi (first + 1) ms k (omega arith) h))
+    (subst P e (marked_is vi (first + 1) ms k (omega arith) h))
 marked_is vi first (false ∷ ms) zero lt h = cc
 marked_is vi first (false ∷ ms) (suc k) lt h =
     let P : ℕ → Type 0 = λ n. has_break (marked_from vi (first + 1) ms) (line_break vi n) ≡ true in

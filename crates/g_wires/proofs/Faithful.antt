@@ -36,12 +36,12 @@ both_numbered m n d e a b None p ho hp so sp = cc
 both_numbered m n d e a b (Some v) None ho hp so sp = cc
 both_numbered m n d e a b (Some v) (Some u) ho hp so sp = same_bool (v == u) ((d == e) && bytes_eq a b)
     (λ h. let same : v ≡ u = same_number v u h in
-        let k = n.apart d e a b v ho (hp ∙ ap Some (sym same)) in
-        and_both (d == e) (bytes_eq a b) (let f : d ≡ e = k.0 in grind (arith, f)) ((bytes_eq-Decides a b).1 k.1))
+    let k = n.apart d e a b v ho (hp ∙ ap Some (sym same)) in
+    and_both (d == e) (bytes_eq a b) (let f : d ≡ e = k.0 in grind (arith, f)) ((bytes_eq-Decides a b).1 k.1))
     (λ h. let dd : d ≡ e = same_number d e (and_left (d == e) (bytes_eq a b) h) in
-        let aa : a ≡ b = (bytes_eq-Decides a b).0 (and_right (d == e) (bytes_eq a b) h) in
-        let same : Some v ≡ Some u = sym ho ∙ ap (λ x. number_at m x a) dd ∙ ap (λ x. number_at m e x) aa ∙ hp in
-        let vu : v ≡ u = cc in grind (arith, vu))
+    let aa : a ≡ b = (bytes_eq-Decides a b).0 (and_right (d == e) (bytes_eq a b) h) in
+    let same : Some v ≡ Some u = sym ho ∙ ap (λ x. number_at m x a) dd ∙ ap (λ x. number_at m e x) aa ∙ hp in
+    let vu : v ≡ u = cc in grind (arith, vu))
 
 joined_at : (m : Table) → Numbers m → (d e : ℕ) (x y : Option (Bor (List ℕ))) → is_numbered m d x → is_numbered m e y
     → same_number_of (number_of m d x) (number_of m e y) ≡ ((d == e) && same_wire (seen_wire x) (seen_wire y))
@@ -75,8 +75,8 @@ module _ (m : Table) (numbers : Numbers m) (ports : List Port) (all : All (has_w
   given : (p : Port) (v : ℕ) → has_wire_of m p → wire_at m p ≡ Some v → list_any (gives v) (map (code_by m) ports) ≡ list_any (λ s. are_joined s (seen p)) (sources (map seen ports))
   given p v hp e =
       any_both (code_by m) seen (gives v) (λ s. s.is_source && are_joined s (seen p)) ports
-          (All-weaker (has_wire_of m) (λ q. gives v (code_by m q) ≡ (q.is_source && are_joined (seen q) (seen p)))
-              (λ q hq. ap (λ b. q.is_source && b) (one (wire_at m q) ∙ ap (same_number_of (wire_at m q)) (sym e) ∙ joined m numbers q p hq hp)) ports all)
+      (All-weaker (has_wire_of m) (λ q. gives v (code_by m q) ≡ (q.is_source && are_joined (seen q) (seen p)))
+      (λ q hq. ap (λ b. q.is_source && b) (one (wire_at m q) ∙ ap (same_number_of (wire_at m q)) (sym e) ∙ joined m numbers q p hq hp)) ports all)
       ∙ sym (any_filter (λ s. are_joined s (seen p)) (λ s. s.is_source) (map seen ports))
     where
       one : (o : Option ℕ) → is_number o v ≡ same_number_of o (Some v)
@@ -119,17 +119,17 @@ module _ (m : Table) (numbers : Numbers m) (ports : List Port) (all : All (has_w
   wire_same a b =
       any_filter (λ s. list_any (coded_feeds a b s) (filter (λ c. not c.is_source) (map (code_by m) ports))) (λ s. s.is_source) (map (code_by m) ports)
       ∙ any_both (code_by m) seen (λ s. s.is_source && list_any (coded_feeds a b s) (filter (λ c. not c.is_source) (map (code_by m) ports)))
-          (λ s. s.is_source && list_any (feeds a b s) (consumers (map seen ports))) ports
-          (All-weaker (has_wire_of m) (λ q. (q.is_source && list_any (coded_feeds a b (code_by m q)) (filter (λ c. not c.is_source) (map (code_by m) ports))) ≡ (q.is_source && list_any (feeds a b (seen q)) (consumers (map seen ports))))
-              (λ q hq. ap (λ x. q.is_source && x) (inner q hq)) ports all)
+      (λ s. s.is_source && list_any (feeds a b s) (consumers (map seen ports))) ports
+      (All-weaker (has_wire_of m) (λ q. (q.is_source && list_any (coded_feeds a b (code_by m q)) (filter (λ c. not c.is_source) (map (code_by m) ports))) ≡ (q.is_source && list_any (feeds a b (seen q)) (consumers (map seen ports))))
+      (λ q hq. ap (λ x. q.is_source && x) (inner q hq)) ports all)
       ∙ sym (any_filter (λ s. list_any (feeds a b s) (consumers (map seen ports))) (λ s. s.is_source) (map seen ports))
     where
       inner : (q : Port) → has_wire_of m q → list_any (coded_feeds a b (code_by m q)) (filter (λ c. not c.is_source) (map (code_by m) ports)) ≡ list_any (feeds a b (seen q)) (consumers (map seen ports))
       inner q hq =
           any_filter (coded_feeds a b (code_by m q)) (λ c. not c.is_source) (map (code_by m) ports)
           ∙ any_both (code_by m) seen (λ c. not c.is_source && coded_feeds a b (code_by m q) c) (λ c. not c.is_source && feeds a b (seen q) c) ports
-              (All-weaker (has_wire_of m) (λ c. (not c.is_source && coded_feeds a b (code_by m q) (code_by m c)) ≡ (not c.is_source && feeds a b (seen q) (seen c)))
-                  (λ c hc. ap (λ x. not c.is_source && x) (feeds_same a b q c hq hc)) ports all)
+          (All-weaker (has_wire_of m) (λ c. (not c.is_source && coded_feeds a b (code_by m q) (code_by m c)) ≡ (not c.is_source && feeds a b (seen q) (seen c)))
+          (λ c hc. ap (λ x. not c.is_source && x) (feeds_same a b q c hq hc)) ports all)
           ∙ sym (any_filter (feeds a b (seen q)) (λ c. not c.is_source) (map seen ports))
 
   pub steps_same : (a b : ℕ) → coded_wire (map (code_by m) ports) a b ≡ has_wire (map seen ports) a b

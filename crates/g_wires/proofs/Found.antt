@@ -45,7 +45,7 @@ found P test [] all h = cc
 found P test (x ∷ xs) all h = ⊎_elim
     (λ e. record { item = x; passes = e; holds = All-head P x xs all; within = λ f fx. or_left (f x) (list_any f xs) fx })
     (λ e. let r : Found P test xs = found P test xs (All-tail P x xs all) e in
-        record { item = r.item; passes = r.passes; holds = r.holds; within = λ f fx. or_right (f x) (list_any f xs) (r.within f fx) })
+    record { item = r.item; passes = r.passes; holds = r.holds; within = λ f fx. or_right (f x) (list_any f xs) (r.within f fx) })
     (or_cases (test x) (list_any test xs) h)
 
 any_kept : {X : Type 0} (p : X → Bool) (x : X) (xs : List X) (b : Bool) → list_any p (cond b (x ∷ xs) xs) ≡ ((b && p x) || list_any p xs)

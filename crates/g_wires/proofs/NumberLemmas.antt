@@ -64,9 +64,9 @@ module _ (old new : Table) (d : ℕ) (name : List ℕ) (v : ℕ) (adds : Adds ol
     below = λ e other u h. let lt : u < v + 1 = below_step (is_key d name e other) v (number_at old e other) u (sym (adds.at e other) ∙ h) (λ k. let k2 = n.below e other u k in omega (arith, k2, adds.next)) in omega (arith, lt, adds.long);
     apart = λ e f other more u h k.
         apart_step (is_key d name e other) (is_key d name f more) v (number_at old e other) (number_at old f more) u (sym (adds.at e other) ∙ h) (sym (adds.at f more) ∙ k)
-            (λ x. let x2 = n.below e other u x in omega (arith, x2, adds.next)) (λ x. let x2 = n.below f more u x in omega (arith, x2, adds.next))
-            (λ x y. n.apart e f other more u x y)
-            (λ x y. let p = same_key d name e other x in let q = same_key d name f more y in (sym p.0 ∙ q.0, sym p.1 ∙ q.1));
+        (λ x. let x2 = n.below e other u x in omega (arith, x2, adds.next)) (λ x. let x2 = n.below f more u x in omega (arith, x2, adds.next))
+        (λ x y. n.apart e f other more u x y)
+        (λ x y. let p = same_key d name e other x in let q = same_key d name f more y in (sym p.0 ∙ q.0, sym p.1 ∙ q.1));
   }
 
   pub has_new : IsSome (number_at new d name)

@@ -34,10 +34,10 @@ module _ (lines count : ℕ) (cs : List Coded) (g : Graph) (all marks : List Boo
     sound = λ v lt h.
         let below : v < lines = omega (arith, length_is) in
         wires_lead lines cs nodes v below
-            (leads_same (has_edge g) (λ a b. list_any (is_edge lines a b) cs) edges v v (t.sound v (omega (arith, long, below)) (sym (mark_is v below) ∙ h)));
+        (leads_same (has_edge g) (λ a b. list_any (is_edge lines a b) cs) edges v v (t.sound v (omega (arith, long, below)) (sym (mark_is v below) ∙ h)));
     below = λ v l. let lt = lead_below lines cs nodes l.0 v v l.1 in omega (arith, length_is, lt);
     complete = λ v l.
         let lt : v < lines = lead_below lines cs nodes l.0 v v l.1 in
         mark_is v lt ∙ t.complete v (omega (arith, long, lt))
-            (leads_same (λ a b. list_any (is_edge lines a b) cs) (has_edge g) (λ a b. sym (edges a b)) v v (edges_lead lines cs nodes v l));
+        (leads_same (λ a b. list_any (is_edge lines a b) cs) (has_edge g) (λ a b. sym (edges a b)) v v (edges_lead lines cs nodes v l));
   }

@@ -50,13 +50,24 @@ struct Findings {
 }
 
 /// Adds the breaks of a VI.
-fn check_vi(alloc: Global, callees: &Callees<'_>, number: u32, vi: &Vi, found: &mut Findings) -> Result<(), AllocError>
+fn check_vi(
+    alloc: Global,
+    callees: &Callees<'_>,
+    number: u32,
+    vi: &Vi,
+    found: &mut Findings,
+) -> Result<(), AllocError>
     ensures named { OnOk result (found.new.named.items ≡ found.old.named.items ++ named_in (ports_with (freedom_by callees.now) vi.now) number) }
     ensures cycles { OnOk result (AddsCycles number (ports_with (freedom_by callees.now) vi.now) found.old.cycles.items found.new.cycles.items) }
 {
     let coded = coded_ports(alloc, callees, vi)?;
     let marks = mark_sources(alloc, coded.count, coded.ports.as_slice())?;
-    push_unsourced(number, marks.as_slice(), coded.ports.as_slice(), &mut found.named)?;
+    push_unsourced(
+        number,
+        marks.as_slice(),
+        coded.ports.as_slice(),
+        &mut found.named,
+    )?;
     let turning = turning_lines(alloc, coded.count, coded.ports.as_slice())?;
     push_marked(number, turning.as_slice(), &mut found.cycles)?;
     Ok(())

@@ -76,7 +76,11 @@ fn code<'a>(numbers: &WireNumbers<'a>, port: &Port<'a>) -> Coded
 }
 
 /// The ports with their wires by these numbers.
-pub fn code_all<'a>(alloc: Global, numbers: &WireNumbers<'a>, ports: &[Port<'a>]) -> Result<Vec<Coded>, AllocError>
+pub fn code_all<'a>(
+    alloc: Global,
+    numbers: &WireNumbers<'a>,
+    ports: &[Port<'a>],
+) -> Result<Vec<Coded>, AllocError>
     ensures { IfOk result (λ cs. cs.items ≡ map (code_by numbers.now) ports.now) }
 {
     let mut all = Vec::with_capacity(alloc, ports.len())?;

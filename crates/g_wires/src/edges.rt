@@ -60,7 +60,12 @@ fn add_edge(graph: &mut Vec<Vec<usize>>, from: usize, to: usize) -> Result<(), A
 
 /// Adds the edge of a port, if it has one: a node leads to the wires that it gives, and a wire to the
 /// nodes that take it.
-fn add_port(graph: &mut Vec<Vec<usize>>, lines: usize, count: usize, port: &Coded) -> Result<(), AllocError>
+fn add_port(
+    graph: &mut Vec<Vec<usize>>,
+    lines: usize,
+    count: usize,
+    port: &Coded,
+) -> Result<(), AllocError>
     requires wires { WireBelow count port.now }
     requires nodes { NodeBelow lines port.now }
     requires fits { lines + count ≡ length graph.old.items }
@@ -72,14 +77,23 @@ fn add_port(graph: &mut Vec<Vec<usize>>, lines: usize, count: usize, port: &Code
     match (port.node, port.wire) {
         (Some(node), Some(wire)) => {
             let (node, wire) = (node as usize, lines + wire);
-            if port.is_source { add_edge(graph, node, wire) } else { add_edge(graph, wire, node) }
+            if port.is_source {
+                add_edge(graph, node, wire)
+            } else {
+                add_edge(graph, wire, node)
+            }
         }
         _ => Ok(()),
     }
 }
 
 /// The graph of ports: the lines are its first vertices, and then come the wires.
-pub fn graph_of(alloc: Global, lines: usize, count: usize, ports: &[Coded]) -> Result<Vec<Vec<usize>>, AllocError>
+pub fn graph_of(
+    alloc: Global,
+    lines: usize,
+    count: usize,
+    ports: &[Coded],
+) -> Result<Vec<Vec<usize>>, AllocError>
     requires wires { All (WireBelow count) ports.now }
     requires nodes { All (NodeBelow lines) ports.now }
     requires small { lines + count < 2 ^ 64 }

@@ -68,7 +68,12 @@ fn push_break(vi: u32, rule: u8, port: &Coded, breaks: &mut Vec<Break>) -> Resul
 }
 
 /// The breaks of rule 1: each consumer whose wire has no source.
-pub fn push_unsourced(vi: u32, marks: &[bool], ports: &[Coded], breaks: &mut Vec<Break>) -> Result<(), AllocError>
+pub fn push_unsourced(
+    vi: u32,
+    marks: &[bool],
+    ports: &[Coded],
+    breaks: &mut Vec<Break>,
+) -> Result<(), AllocError>
     ensures { OnOk result (breaks.new.items ≡ breaks.old.items ++ map (coded_break vi 1) (filter (lacks_mark marks.now) ports.now)) }
 {
     for port in ports {

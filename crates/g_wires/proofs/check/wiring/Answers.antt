@@ -19,6 +19,6 @@ returns c =
     let Q : List Vi → Type 0 = λ vs. ListsEach (BreaksBy (ports_of vs) vs) bs in
     let R : (Vi → List Port) → Type 0 = λ ps. ListsEach (BreaksBy ps vis) bs in
     subst P (sym c.from_vec.ensures) (subst Q c.as_slice-vis.ensures (subst R (ports_same c.in_ok-callees.callees vis c.in_ok-callees.ensures)
-        (lists_each ports vis c.in_ok-found.found.named.items c.in_ok-found.found.cycles.items all bs c.in_ok-found.ensures.named c.in_ok-found.ensures.cycles
-            (c.in_ok-extend_from_slice.ensures.items ∙ ap (λ (xs : List Break). c.in_ok-found.found.named.items ++ xs) c.as_slice.ensures.value)
-            c.in_ok-listed.ensures.order (λ b. c.in_ok-listed.ensures.same b ∙ ap (λ (xs : List Break). has_break xs b) c.as_slice-2.ensures.value))))
+    (lists_each ports vis c.in_ok-found.found.named.items c.in_ok-found.found.cycles.items all bs c.in_ok-found.ensures.named c.in_ok-found.ensures.cycles
+    (c.in_ok-extend_from_slice.ensures.items ∙ ap (λ (xs : List Break). c.in_ok-found.found.named.items ++ xs) c.as_slice.ensures.value)
+    c.in_ok-listed.ensures.order (λ b. c.in_ok-listed.ensures.same b ∙ ap (λ (xs : List Break). has_break xs b) c.as_slice-2.ensures.value))))
