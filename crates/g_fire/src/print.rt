@@ -84,8 +84,8 @@ fn all_done(state: &FireState, steps: &[Step]) -> bool
     true
 }
 
-/// How a run stands that came to this state.
-fn end_at(alloc: Global, h: &Hierarchy, state: &FireState) -> Result<End, AllocError>
+/// How a run stands that came to this state. Only want of memory refuses it.
+pub fn end_at(alloc: Global, h: &Hierarchy, state: &FireState) -> Result<End, AllocError>
     requires form { IsForm h.now }
     requires reached { IsReached (program h.now) state.now }
     ensures { IfOk result (λ end. end ≡ end_of (program h.now) state.now) }

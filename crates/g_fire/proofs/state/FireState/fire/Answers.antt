@@ -1,7 +1,6 @@
-use Rattle.std.proofs.Common.{◌≡◌, ◌<◌, ◌≤◌, arith, ap, subst, sym, ◌∙◌, get_or, rules, OnOk}
+use Rattle.std.proofs.Common.{◌≡◌, arith, ap, subst, ◌∙◌, OnOk}
 use Rattle.g_values.specs.Coerce.{coerced}
-use Rattle.g_fire.specs.declared.plan.Input.TheVariants.{Unwired}
-use Rattle.g_fire.proofs.StepLemmas.{step_i32, show_fired, show_panel}
+use Rattle.g_fire.proofs.StepLemmas.{step_i32, show_fired}
 use Rattle.g_fire.proofs.state.FireState.fire.Goals as goal
 
 pub number_of-requires : goal.number_of-requires
