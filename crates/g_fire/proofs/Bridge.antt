@@ -1,13 +1,12 @@
 -- A step fires as the definitions say of its node.
 use Rattle.std.proofs.Common.{◌≡◌, Bool, true, false, ◌&&◌, ◌||◌, ℕ, zero, suc, ◌+◌, ◌<◌, ◌≤◌, List, [], ◌∷◌, ◌++◌, map, Option, Some, None, arith, cond, refl, ap, sym, subst, ◌∙◌, eq-eqb}
 use Rattle.std.proofs.lemmas.Bool.{eqb-true}
-use Rattle.std.specs.Prelude.{not, is_some, is_none, slice_get, ◌==◌, length}
+use Rattle.std.specs.Prelude.{not, is_some, slice_get, ◌==◌, length}
 use Rattle.std.specs.List.{list_all, list_any}
 use Rattle.g_types.specs.declared.ty.Ty.{Ty, out-Ty}
 use Rattle.g_types.specs.declared.ty.Ty.TheOpen.{Ty-F}
 use Rattle.g_values.specs.declared.value.Value.{Value}
 use Rattle.g_values.specs.Coerce.{coerced}
-use Rattle.g_values.specs.declared.primitive.Primitive.{Primitive}
 use Rattle.g_diagram.specs.declared.panel.Lit.{Lit}
 use Rattle.g_diagram.specs.declared.panel.Lit.TheViews.{out-Lit}
 use Rattle.g_diagram.specs.declared.panel.Lit.TheOpen.{Lit-F}
@@ -15,20 +14,17 @@ use Rattle.g_diagram.specs.Lines.{Wire, Entry, Kind, Const, Apply, Shows, entry}
 use Rattle.g_operations.specs.Values.{outputs_of}
 use Rattle.g_fire.specs.declared.firing.Firing.{Firing}
 use Rattle.g_fire.specs.declared.maps.WireSource.{WireSource}
-use Rattle.g_fire.specs.declared.plan.Input.{Input}
 use Rattle.g_fire.specs.declared.plan.Step.{Step}
-use Rattle.g_fire.specs.declared.plan.Work.TheVariants as work
 use Rattle.g_fire.specs.declared.state.FireState.{FireState}
 use Rattle.g_fire.specs.declared.state.Fired.{Fired}
 use Rattle.g_fire.specs.declared.state.Fired.TheVariants.{Once}
-use Rattle.g_fire.specs.declared.state.Frame.{Frame}
 use Rattle.g_fire.specs.Maps.{firings_at}
 use Rattle.g_fire.specs.Wires.{source_of, inputs_of}
-use Rattle.g_fire.specs.Program.{FlatVi, Program, vi_in}
+use Rattle.g_fire.specs.Program.{FlatVi, Program}
 use Rattle.g_fire.specs.State.{first_frame, frame_node, is_done}
-use Rattle.g_fire.specs.Fire.{Effect, Reader, gives, guard, reader_in, value_from, has_value, value_on, or_false, outputs_from, const_effect, literal_at, literal_value, shows_in, effect, is_ready, node_effect, node_at, on_node, on_vi, on_frame, effect_of, can_fire, fire, or_same}
-use Rattle.g_fire.specs.Run.{IsAtRest, firing, after, after_from, go_on}
-use Rattle.g_fire.specs.Plan.{Finder, found_input, input_on, has_input, value_of_input, literal_number_at, literal_number, const_work, work_of, work_effect, step_of, step_effect, step_can, step_ready, step_fired, first_value, Ascends, IsPlan}
+use Rattle.g_fire.specs.Fire.{Reader, gives, guard, reader_in, value_from, has_value, value_on, or_false, outputs_from, const_effect, literal_at, shows_in, effect, is_ready, node_effect, node_at, on_node, on_vi, on_frame, effect_of, can_fire, fire, or_same}
+use Rattle.g_fire.specs.Run.{IsAtRest, firing, after_from, go_on}
+use Rattle.g_fire.specs.Plan.{Finder, found_input, input_on, has_input, value_of_input, literal_number_at, const_work, work_of, work_effect, step_of, step_effect, step_can, step_ready, step_fired, Ascends, IsPlan}
 use Rattle.g_fire.proofs.WireLemmas.{inputs-Apply}
 use Rattle.g_fire.proofs.StepLemmas.{some_is, refute}
 

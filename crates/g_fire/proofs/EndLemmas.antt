@@ -1,21 +1,19 @@
 -- How a run ended, by the steps.
 use Rattle.std.specs.Prelude.{IfSome, IfNone}
-use Rattle.std.proofs.Common.{◌≡◌, Bool, true, false, ◌&&◌, ◌||◌, ℕ, zero, suc, ◌+◌, List, [], ◌∷◌, ◌++◌, map, filter, Option, Some, None, cond, refl, ap, sym, subst, ◌∙◌, eq-eqb}
-use Rattle.std.specs.Prelude.{is_some, not, slice_get, ◌==◌}
+use Rattle.std.proofs.Common.{◌≡◌, Bool, true, false, ◌&&◌, ◌||◌, ℕ, zero, suc, ◌+◌, List, [], ◌∷◌, map, filter, Option, Some, None, cond, refl, ap, sym, ◌∙◌, eq-eqb}
+use Rattle.std.specs.Prelude.{is_some, not, slice_get}
 use Rattle.std.specs.List.{list_all, list_any}
 use Rattle.std.proofs.lemmas.List.{append-nil}
-use Rattle.g_values.specs.declared.value.Value.{Value}
 use Rattle.g_diagram.specs.Lines.{Entry, nodes_of}
 use Rattle.g_fire.specs.declared.firing.Firing.{Firing}
 use Rattle.g_fire.specs.declared.plan.Step.{Step}
 use Rattle.g_fire.specs.declared.state.End.{End}
 use Rattle.g_fire.specs.declared.state.End.TheVariants.{Complete, Stalled, Unfinished}
 use Rattle.g_fire.specs.declared.state.FireState.{FireState}
-use Rattle.g_fire.specs.declared.state.Frame.{Frame}
 use Rattle.g_fire.specs.Program.{Program, vi_in}
-use Rattle.g_fire.specs.State.{first_frame, is_done, is_complete, entries_in, start}
+use Rattle.g_fire.specs.State.{first_frame, is_done, entries_in, start}
 use Rattle.g_fire.specs.Fire.{Effect, can_fire, fire, effect_of, or_same}
-use Rattle.g_fire.specs.Run.{firing, after, after_from, go_on, node_firings, frame_firings, candidates, enabled, is_empty, is_at_rest, first_complete, end_of, IsReached}
+use Rattle.g_fire.specs.Run.{firing, after_from, go_on, node_firings, frame_firings, is_empty, is_at_rest, first_complete, end_of, IsReached}
 use Rattle.g_fire.specs.Plan.{step_of, step_can, Ascends, CanAt, IsPlan}
 use Rattle.g_fire.proofs.StepLemmas.{some_is, refute}
 use Rattle.g_fire.proofs.Bridge.{can_at}

@@ -1,7 +1,7 @@
 -- Laws of every run.
-use Rattle.std.proofs.Common.{◌≡◌, Bool, true, false, ◌&&◌, ℕ, zero, suc, ◌+◌, List, [], ◌∷◌, ◌++◌, length, filter, Option, Some, None, arith, cond, refl, ap, sym, subst, ◌∙◌, length-append}
+use Rattle.std.proofs.Common.{◌≡◌, Bool, true, false, ◌&&◌, ℕ, zero, suc, ◌+◌, List, [], ◌∷◌, ◌++◌, length, filter, Option, Some, None, arith, cond, refl, ap, sym, ◌∙◌, length-append}
 use Rattle.std.proofs.lemmas.Bool.{eqb-true}
-use Rattle.std.specs.Prelude.{is_some, is_none, slice_get, ◌==◌}
+use Rattle.std.specs.Prelude.{is_some, slice_get, ◌==◌}
 use Rattle.g_values.specs.declared.value.Value.{Value}
 use Rattle.g_diagram.specs.Lines.{Entry, nodes_of}
 use Rattle.g_fire.specs.declared.firing.Firing.{Firing}
@@ -14,10 +14,10 @@ use Rattle.g_fire.specs.declared.state.Frame.{Frame}
 use Rattle.g_fire.specs.Maps.{same_terminal, same_node, value_at, put_value, add_firing}
 use Rattle.g_fire.specs.Program.{FlatVi, Program, vi_in}
 use Rattle.g_fire.specs.State.{terminal, frame_node, entries_in, nodes_in}
-use Rattle.g_fire.specs.Fire.{Effect, Reader, effect, effect_of, guard, is_ready, node_effect, node_at, on_node, on_vi, on_frame, reader_in, can_fire, fire, or_same, put_all}
-use Rattle.g_fire.specs.Run.{after_from, go_on, first_refused, refusing, IsAtRest, firing, node_firings, frame_firings, candidates, enabled, is_empty, is_at_rest}
+use Rattle.g_fire.specs.Fire.{Effect, effect_of, guard, is_ready, node_at, on_node, on_vi, on_frame, reader_in, can_fire, fire, or_same, put_all}
+use Rattle.g_fire.specs.Run.{after_from, go_on, first_refused, refusing, IsAtRest, firing, node_firings, frame_firings, candidates, is_empty, is_at_rest}
 use Rattle.g_fire.specs.Laws.{and_then, count_done}
-use Rattle.g_fire.proofs.StepLemmas.{and_right, some_is, refute}
+use Rattle.g_fire.proofs.StepLemmas.{some_is, refute}
 
 pub composes : (p : Program) (xs ys : List Firing) (s : FireState) → after_from p (xs ++ ys) s ≡ and_then (after_from p xs s) (after_from p ys)
 composes p [] ys s = refl

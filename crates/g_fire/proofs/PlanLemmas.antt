@@ -1,6 +1,6 @@
 -- The steps are the nodes of the VI that runs, and names lead where the definitions say.
-use Rattle.std.proofs.Common.{◌≡◌, Bool, true, false, ◌&&◌, ℕ, zero, suc, ◌+◌, ◌≤◌, List, [], ◌∷◌, ◌++◌, map, length, Option, Some, None, arith, cond, refl, ap, sym, subst, ◌∙◌}
-use Rattle.std.specs.Prelude.{is_some, not, slice_get, ◌==◌, bytes_eq, Ok, Err, IfOk}
+use Rattle.std.proofs.Common.{◌≡◌, Bool, true, false, ◌&&◌, ℕ, suc, ◌+◌, ◌≤◌, List, [], ◌∷◌, ◌++◌, map, length, Option, Some, None, arith, cond, refl, ap, sym, subst, ◌∙◌}
+use Rattle.std.specs.Prelude.{is_some, slice_get, ◌==◌, bytes_eq, Ok, Err, IfOk}
 use Rattle.std.specs.declared.result.Result.{Result}
 use Rattle.std.specs.List.{list_all}
 use Rattle.std.proofs.lemmas.Slice.Eq.{bytes_eq-Decides}
@@ -24,15 +24,15 @@ use Rattle.g_diagram.specs.declared.node.Node.TheFolds.{fold-roll-Node}
 use Rattle.g_diagram.specs.declared.node.SequenceFrame.{SequenceFrame}
 use Rattle.g_diagram.specs.Form as form
 use Rattle.g_diagram.specs.Form.{is_sum, is_number, is_plain_at, is_plain_node, are_named, IsFormVi}
-use Rattle.g_diagram.specs.Lines.{Wire, Lines, BranchLines, FrameLines, Entry, Kind, Const, Apply, Shows, entry, lines_of, one_line, node_step, branch_step, diagram_step, frame_step, panel_entries, nodes_entries, entries_of}
+use Rattle.g_diagram.specs.Lines.{Wire, Lines, BranchLines, FrameLines, Entry, Kind, Const, Apply, entry, lines_of, one_line, node_step, branch_step, diagram_step, frame_step, panel_entries, nodes_entries, entries_of}
 use Rattle.g_diagram.specs.Operands.{Outside, Operand, Freedom, source, consumer, in_and_out, plain_line, control_lines, entries_lines}
-use Rattle.g_diagram.specs.Ports.{Port, ports_from, ports_in, ports_of, freedom}
+use Rattle.g_diagram.specs.Ports.{Port, ports_from, ports_in, freedom}
 use Rattle.g_fire.specs.declared.maps.WireSource.{WireSource}
 use Rattle.g_fire.specs.declared.plan.Step.{Step}
-use Rattle.g_fire.specs.Names.{Table, named, add_name, add_all, given_wires, given_item, given_panel, given_at, given_nodes}
-use Rattle.g_fire.specs.Program.{flat_vi, Program, program, vi_in}
+use Rattle.g_fire.specs.Names.{Table, named, add_name, add_all, given_wires, given_panel, given_at, given_nodes}
+use Rattle.g_fire.specs.Program.{flat_vi, program}
 use Rattle.g_fire.specs.Wires.{source_of, inputs_of}
-use Rattle.g_fire.specs.Plan.{Finder, input_on, found_input, is_wired, literal_number_at, literal_number, const_work, plain_work, step_of, step_plain, Ascends, IsPlan}
+use Rattle.g_fire.specs.Plan.{Finder, input_on, found_input, is_wired, literal_number_at, const_work, plain_work, step_of, step_plain, Ascends, IsPlan}
 use Rattle.g_fire.proofs.WireLemmas.{inputs-Apply}
 use Rattle.g_fire.proofs.StepLemmas.{and_left, and_right, both, refute}
 

@@ -13,7 +13,6 @@ use Rattle.g_values.specs.declared.primitive.Primitive.TheVariants.{Add, Sub, Mu
 use Rattle.g_values.specs.declared.value.Value.{Value, out-Value}
 use Rattle.g_values.specs.declared.value.Value.TheVariants as value
 use Rattle.g_values.specs.declared.value.Value.TheOpen.{Value-F}
-use Rattle.g_values.specs.Coerce.{coerced}
 use Rattle.g_values.specs.Number.{num_of}
 use Rattle.g_diagram.specs.Form.{is_sum}
 use Rattle.g_diagram.specs.declared.panel.PanelItem.{PanelItem}
@@ -30,7 +29,7 @@ use Rattle.g_fire.specs.declared.state.FireState.{FireState}
 use Rattle.g_fire.specs.declared.state.Content.{Content}
 use Rattle.g_fire.specs.declared.state.Content.TheVariants.{Panel}
 use Rattle.g_fire.specs.Maps.{same_terminal, put_value}
-use Rattle.g_fire.specs.Program.{Program, vi_in}
+use Rattle.g_fire.specs.Program.{Program}
 use Rattle.g_fire.specs.State.{terminal, first_frame, start, start_of, control_values}
 use Rattle.g_fire.specs.Fire.{Effect, or_same, shows_in, put_all, outputs_from}
 use Rattle.g_fire.specs.Run.{firing, after}

@@ -1,37 +1,22 @@
 -- What a step needs and keeps.
-use Rattle.std.proofs.Common.{◌≡◌, Bool, true, false, ◌&&◌, ◌||◌, ℕ, zero, suc, ◌+◌, ◌<◌, ◌≤◌, List, [], ◌∷◌, map, length, get_or, Option, Some, None, arith, cond, refl, ap, sym, subst, ◌∙◌}
-use Rattle.std.specs.Prelude.{is_some, slice_get, ◌==◌}
+use Rattle.std.proofs.Common.{◌≡◌, Bool, true, false, ◌&&◌, ℕ, zero, suc, ◌<◌, ◌≤◌, List, [], ◌∷◌, map, length, get_or, Option, Some, None, arith, cond, refl, ap, sym, subst, ◌∙◌}
+use Rattle.std.specs.Prelude.{is_some, slice_get}
 use Rattle.std.specs.List.{list_all}
-use Rattle.g_types.specs.declared.rep.Rep.{Rep}
-use Rattle.g_types.specs.declared.rep.Rep.TheVariants.{I8, I16, I32, I64, U8, U16, U32, U64}
-use Rattle.g_types.specs.Rep.{wider}
 use Rattle.g_types.specs.declared.ty.Ty.{Ty}
-use Rattle.g_values.specs.declared.num.Num.{Num}
-use Rattle.g_values.specs.declared.primitive.Primitive.{Primitive}
-use Rattle.g_values.specs.declared.primitive.Primitive.TheVariants.{Add, Sub, Mul}
-use Rattle.g_values.specs.declared.value.Value.{Value, out-Value}
-use Rattle.g_values.specs.declared.value.Value.TheVariants as value
-use Rattle.g_values.specs.declared.value.Value.TheOpen.{Value-F}
+use Rattle.g_values.specs.declared.value.Value.{Value}
 use Rattle.g_values.specs.Coerce.{coerced}
-use Rattle.g_values.specs.Number.{num_of}
-use Rattle.g_diagram.specs.Form.{is_sum}
-use Rattle.g_operations.specs.Values.{outputs_of}
-use Rattle.g_operations.specs.Arithmetic.{arithmetic, arithmetic_at, plus, minus, times}
-use Rattle.g_fire.specs.declared.firing.Firing.{Firing}
 use Rattle.g_fire.specs.declared.maps.Terminal.{Terminal}
 use Rattle.g_fire.specs.declared.plan.Input.{Input}
 use Rattle.g_fire.specs.declared.plan.Input.TheVariants.{Unwired, Missing, From}
-use Rattle.g_fire.specs.declared.plan.Work.{Work}
 use Rattle.g_fire.specs.declared.plan.Work.TheVariants as work
 use Rattle.g_fire.specs.declared.plan.Step.{Step}
 use Rattle.g_fire.specs.declared.state.FireState.{FireState}
 use Rattle.g_fire.specs.declared.state.Content.{Content}
-use Rattle.g_fire.specs.declared.state.Content.TheVariants.{Panel}
-use Rattle.g_fire.specs.Maps.{same_terminal, value_at, put_value}
+use Rattle.g_fire.specs.Maps.{same_terminal, value_at}
 use Rattle.g_fire.specs.State.{terminal}
-use Rattle.g_fire.specs.Fire.{Effect, guard, or_same, or_false, shows_in, applied}
+use Rattle.g_fire.specs.Fire.{Effect, guard, or_same, or_false, shows_in}
 use Rattle.g_fire.specs.Run.{firing}
-use Rattle.g_fire.specs.Plan.{is_i32, is_i32_at, is_i32_rep, are_i32, is_wired, has_input, value_of_input, step_can, step_ready, step_effect, step_fired, step_plain, plain_work, work_effect, first_value}
+use Rattle.g_fire.specs.Plan.{is_i32, are_i32, is_wired, has_input, value_of_input, step_can, step_ready, step_effect, step_fired, step_plain, plain_work, work_effect, first_value}
 
 one_side : Bool → Type 0
 one_side true = ⊥

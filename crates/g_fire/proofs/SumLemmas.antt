@@ -3,11 +3,10 @@ use Rattle.std.proofs.Common.{◌≡◌, ℤ, pos, negsuc, ◌*ℤ◌, ◌≤◌
 use Rattle.std.specs.Prelude.{unsigned_abs, FitsSigned}
 use Rattle.std.specs.Int.{w128}
 use Rattle.std.proofs.lemmas.Int.{ints, to_z-of_z, fits_signed_mul}
-use Rattle.g_types.specs.declared.rep.Rep.{Rep}
 use Rattle.g_types.specs.declared.rep.Rep.TheVariants.{I32}
 use Rattle.g_types.specs.Rep.{wider, InRange}
 use Rattle.g_values.specs.declared.num.Num.{Num}
-use Rattle.g_values.specs.declared.value.Value.{Value, out-Value}
+use Rattle.g_values.specs.declared.value.Value.{out-Value}
 use Rattle.g_values.specs.declared.value.Value.TheVariants as value
 use Rattle.g_values.specs.declared.value.Value.TheOpen.{Value-F}
 use Rattle.g_values.specs.Number.{num_of}

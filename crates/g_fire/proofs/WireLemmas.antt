@@ -1,9 +1,9 @@
 -- The wires that a node takes, by its kind.
-use Rattle.std.proofs.Common.{◌≡◌, ℕ, List, [], ◌∷◌, ◌++◌, map, refl, ap, ◌∙◌}
+use Rattle.std.proofs.Common.{◌≡◌, ℕ, List, [], ◌∷◌, map, refl, ap, ◌∙◌}
 use Rattle.std.proofs.lemmas.List.{append-nil}
 use Rattle.g_values.specs.declared.primitive.Primitive.{Primitive}
 use Rattle.g_diagram.specs.Lines.{Wire, Apply, entry}
-use Rattle.g_diagram.specs.Operands.{Outside, source, consumer, in_and_out}
+use Rattle.g_diagram.specs.Operands.{Outside, source, in_and_out}
 use Rattle.g_fire.specs.Wires.{wires_taken, inputs_of}
 
 taken-sources : (outs : List Wire) → wires_taken (map (source Outside) outs) ≡ []

@@ -25,7 +25,7 @@ use Rattle.g_diagram.proofs.Trees.{Sketch, Tree, Trees, none, also, Apply, Const
 use Rattle.g_fire.specs.declared.firing.Firing.{Firing}
 use Rattle.g_fire.specs.declared.state.FireState.{FireState}
 use Rattle.g_fire.proofs.Compute.{everything}
-use Rattle.g_fire.specs.Program.{FlatVi, Program, program}
+use Rattle.g_fire.specs.Program.{Program, program}
 use Rattle.g_fire.specs.Run.{firing, after}
 use Rattle.g_fire.specs.Print.{print, indicator_line}
 

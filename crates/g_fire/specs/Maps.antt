@@ -1,5 +1,5 @@
 -- What is known by frame, as lists of keys with what they have. A key stands once: its first entry counts.
-use Rattle.std.specs.Prelude.{ℕ, ◌==◌, Bool, ◌&&◌, List, [], ◌∷◌, ◌++◌, Option, Some, None, if◌then◌else◌}
+use Rattle.std.specs.Prelude.{◌==◌, Bool, ◌&&◌, List, [], ◌∷◌, ◌++◌, Option, Some, None, if◌then◌else◌}
 use Rattle.g_values.specs.declared.value.Value.{Value}
 use Rattle.g_fire.specs.declared.firing.FrameNode.{FrameNode}
 use Rattle.g_fire.specs.declared.maps.Terminal.{Terminal}

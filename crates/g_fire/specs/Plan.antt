@@ -19,7 +19,6 @@ use Rattle.g_diagram.specs.declared.hierarchy.Vi.{Vi}
 use Rattle.g_diagram.specs.Form.{is_sum, is_indicator}
 use Rattle.g_diagram.specs.Lines.{Wire, Entry, Kind, Const, Apply, Shows}
 use Rattle.g_operations.specs.Values.{outputs_of}
-use Rattle.g_fire.specs.declared.firing.Firing.{Firing}
 use Rattle.g_fire.specs.declared.maps.Terminal.{Terminal}
 use Rattle.g_fire.specs.declared.maps.WireSource.{WireSource}
 use Rattle.g_fire.specs.declared.plan.Input.{Input}

@@ -1,5 +1,5 @@
 -- A hierarchy as the firing machine sees it: of each VI its panel, its nodes and its ports.
-use Rattle.std.specs.Prelude.{ℕ, zero, suc, List, [], map, Option, None, slice_get}
+use Rattle.std.specs.Prelude.{ℕ, zero, suc, List, map, Option, None, slice_get}
 use Rattle.g_diagram.specs.declared.hierarchy.Hierarchy.{Hierarchy}
 use Rattle.g_diagram.specs.declared.hierarchy.Vi.{Vi}
 use Rattle.g_diagram.specs.declared.panel.PanelItem.{PanelItem}

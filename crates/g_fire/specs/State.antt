@@ -1,5 +1,5 @@
 -- The state of the firing machine: where a run begins, and what is done.
-use Rattle.std.specs.Prelude.{ℕ, ◌+◌, ◌==◌, Bool, true, false, ◌&&◌, List, [], ◌∷◌, ◌++◌, Option, Some, None, slice_get}
+use Rattle.std.specs.Prelude.{ℕ, ◌+◌, Bool, true, List, [], ◌∷◌, Option, Some, None}
 use Rattle.std.specs.List.{list_any, list_all}
 use Rattle.g_values.specs.declared.value.Value.{Value}
 use Rattle.g_values.specs.Default.{default}
@@ -8,7 +8,6 @@ use Rattle.g_diagram.specs.declared.panel.PanelItem.TheVariants.{Control, Indica
 use Rattle.g_diagram.specs.Lines.{Entry, nodes_of}
 use Rattle.g_fire.specs.declared.firing.FrameNode.{FrameNode}
 use Rattle.g_fire.specs.declared.maps.Terminal.{Terminal}
-use Rattle.g_fire.specs.declared.state.Content.{Content}
 use Rattle.g_fire.specs.declared.state.Content.TheVariants.{Panel}
 use Rattle.g_fire.specs.declared.state.FireState.{FireState}
 use Rattle.g_fire.specs.declared.state.Fired.{Fired}

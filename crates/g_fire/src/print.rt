@@ -84,7 +84,7 @@ fn all_done(state: &FireState, steps: &[Step]) -> bool
     true
 }
 
-/// How a run stands that came to this state.
+/// How a run stands that came to this state. Only want of memory refuses it.
 pub fn end_at(alloc: Global, h: &Hierarchy, state: &FireState) -> Result<End, AllocError>
     requires form { IsForm h.now }
     requires reached { IsReached (program h.now) state.now }

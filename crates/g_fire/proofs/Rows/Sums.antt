@@ -1,9 +1,9 @@
 -- Runs of one VI, computed.
-use Rattle.std.proofs.Common.{◌≡◌, ap, ◌∙◌, ◌^◌}
-use Rattle.std.specs.Prelude.{[], ◌∷◌, ◌-◌, Some, None, pos, negsuc, neg_ℤ, codes}
+use Rattle.std.proofs.Common.{◌≡◌, ap, ◌∙◌}
+use Rattle.std.specs.Prelude.{[], ◌∷◌, Some, None, pos, neg_ℤ, codes}
 use Rattle.g_values.specs.declared.primitive.Primitive.TheVariants.{Add, Sub, Mul}
 use Rattle.g_diagram.proofs.Trees.{Sketch}
-use Rattle.g_fire.specs.Program.{Program, program}
+use Rattle.g_fire.specs.Program.{program}
 use Rattle.g_fire.specs.State.{start}
 use Rattle.g_fire.specs.Run.{after, first_refused}
 use Rattle.g_fire.proofs.Compute.{everything}

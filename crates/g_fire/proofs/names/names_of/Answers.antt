@@ -1,4 +1,4 @@
-use Rattle.std.proofs.Common.{arith, ap, sym, ◌∙◌, ◌+◌, ◌∷◌, drop, length, rules}
+use Rattle.std.proofs.Common.{arith, ap, sym, ◌∙◌, ◌+◌, ◌∷◌, drop, rules}
 use Rattle.std.proofs.lemmas.List.{drop_more}
 use Rattle.g_fire.specs.Names.{add_all, given_nodes}
 use Rattle.g_fire.proofs.NameLemmas.{nodes_more}

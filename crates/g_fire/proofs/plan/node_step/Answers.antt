@@ -1,8 +1,7 @@
 use Rattle.std.proofs.Common.{ap, sym, ◌∙◌, ◌+◌, map, ◌∷◌, [], length}
-use Rattle.g_diagram.specs.Lines.{lines_of, entry, Apply}
+use Rattle.g_diagram.specs.Lines.{lines_of}
 use Rattle.g_diagram.proofs.LineLemmas.{lines-Apply}
 use Rattle.g_fire.specs.declared.plan.Step.{Step}
-use Rattle.g_fire.specs.declared.plan.Input.{Input}
 use Rattle.g_fire.specs.declared.plan.Work.TheVariants as work
 use Rattle.g_fire.specs.Names.{named}
 use Rattle.g_fire.specs.Plan.{step_of, input_on}

@@ -1,4 +1,4 @@
-use Rattle.std.proofs.Common.{◌∷◌, ◌++◌, [], Some, length, ap, sym, subst, ◌∙◌, arith, length-append}
+use Rattle.std.proofs.Common.{◌∷◌, [], Some, length, ap, sym, subst, ◌∙◌, arith, length-append}
 use Rattle.g_fire.specs.Program.{program}
 use Rattle.g_fire.specs.State.{start}
 use Rattle.g_fire.specs.Run.{after, firing}

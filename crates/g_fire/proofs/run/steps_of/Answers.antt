@@ -1,4 +1,4 @@
-use Rattle.std.proofs.Common.{◌≡◌, ap, sym, ◌∙◌, map, get_or}
+use Rattle.std.proofs.Common.{◌≡◌, ap, ◌∙◌, map, get_or}
 use Rattle.g_diagram.specs.Lines.{entries_of}
 use Rattle.g_fire.specs.Names.{named}
 use Rattle.g_fire.specs.Plan.{step_of}

@@ -1,7 +1,6 @@
-use Rattle.std.proofs.Common.{◌≡◌, ◌<◌, ◌≤◌, arith, ap, subst, sym, ◌∙◌, get_or, rules, OnOk}
+use Rattle.std.proofs.Common.{◌≡◌, arith, ap, subst, ◌∙◌, OnOk}
 use Rattle.g_values.specs.Coerce.{coerced}
-use Rattle.g_fire.specs.declared.plan.Input.TheVariants.{Unwired}
-use Rattle.g_fire.proofs.StepLemmas.{step_i32, show_fired, show_panel}
+use Rattle.g_fire.proofs.StepLemmas.{step_i32, show_fired}
 use Rattle.g_fire.proofs.state.FireState.fire.Goals as goal
 
 pub number_of-requires : goal.number_of-requires
@@ -23,5 +22,5 @@ pub returns-in-Show-len1 : goal.returns-in-Show-len1
 returns-in-Show-len1 c =
     subst (λ t. OnOk c.show.result (c.show.new.self ≡ t))
     (show_fired c.args.self.now c.args.step.now c.in-Show-len1.ty c.in-Show-len1.is-0 c.requires.can c.as_slice.result.now c.as_slice.ensures c.in-Show-len1.len_at_least
-    c.coerce.result (c.coerce.ensures ∙ ap (λ v. coerced v c.in-Show-len1.ty) c.number_of-x.ensures.value))
+    c.coerce.result (c.coerce.ensures.value ∙ ap (λ v. coerced v c.in-Show-len1.ty) c.number_of-x.ensures.value))
     c.show.ensures
