@@ -1,5 +1,0 @@
-pub mod Gives
-pub mod Lacks
-pub mod Levels
-pub mod Refusals
-pub mod Results

@@ -1,6 +1,0 @@
-pub mod Words
-pub mod Types
-pub mod Literals
-pub mod Borders
-pub mod Nodes
-pub mod Listing
