@@ -9,6 +9,3 @@ mod marks;
 mod turns;
 
 pub use check::{BreakList, wiring};
-
-#[cfg(test)]
-mod tests;
