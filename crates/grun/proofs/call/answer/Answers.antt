@@ -1,0 +1,32 @@
+-- proofs/call/answer/Answers.antt
+use Rattle.std.proofs.Common.{ℕ, List, Option, Some, None, Err, map, ap, subst, ◌++◌, codes}
+use Rattle.std.specs.String.{string_bytes}
+use Rattle.std.specs.Fmt.{decimal}
+use Rattle.g_io.specs.Reading.{IsLonger}
+use Rattle.g_line.specs.declared.forms.Line.{Line}
+use Rattle.g_line.specs.Forms.{HasLine}
+use Rattle.g_line.specs.Usage.{IsFirstWrong, IsRefusal}
+use Rattle.grun.specs.Texts.{line_of}
+use Rattle.grun.specs.Answer.{reply, LIMIT, usage, too_long}
+use Rattle.grun.specs.Call.{Answers, answer}
+use Rattle.grun.proofs.call.answer.Goals as goal
+
+usage_answers : (words : List (List ℕ)) (left : Option (List ℕ)) (k : ℕ) → IsFirstWrong words k → Answers words left None (reply 1 (line_of (codes "usage at word " ++ decimal k)))
+usage_answers words None k wrong = tt
+usage_answers words (Some bytes) k wrong = usage k wrong
+
+long_answers : (words : List (List ℕ)) (line : Line) (left : Option (List ℕ)) → HasLine words line → IsLonger left LIMIT → Answers words left None (reply 10 (line_of (codes "too long")))
+long_answers words line None has longer = tt
+long_answers words line (Some bytes) has longer = too_long line has longer
+
+pub returns-in-Err-Usage-clause-answer : goal.returns-in-Err-Usage-clause-answer
+returns-in-Err-Usage-clause-answer g c =
+    let words = map string_bytes c.args.words.now.items in
+    rw (c.refused.ensures.trace, c.refused.ensures.status, c.refused.ensures.text, c.in_ok-numbered-in-Err-Usage.ensures)
+    (answer (usage_answers words (g.S.Source.left c.args.source.now) c.in-Err-Usage.k (subst (IsRefusal words) c.in-Err-Usage.field-0-is c.in-Err-Usage.ensures.refused)))
+
+pub returns-in-Err-TooLong-clause-answer : goal.returns-in-Err-TooLong-clause-answer
+returns-in-Err-TooLong-clause-answer g c =
+    let words = map string_bytes c.args.words.now.items in
+    rw (c.refused-in-Err-TooLong.ensures.trace, c.refused-in-Err-TooLong.ensures.status, c.refused-in-Err-TooLong.ensures.text, c.in_ok-fixed-in-Err-TooLong.ensures)
+    (answer (long_answers words c.in-Ok-Run.field-0 (g.S.Source.left c.args.source.now) c.in-Ok-Run.ensures.has (c.in-Err-TooLong.ensures.too_long (ap Err c.in-Err-TooLong.field-0-is))))

@@ -1,0 +1,74 @@
+-- The answer to words, bytes and the trace of a run: a status and what is written. Its cases stand in the order in which they are looked at.
+use Rattle.std.specs.Prelude.{◌≡◌, ◌≢◌, ℕ, ◌+◌, ◌<◌, ◌≤◌, List, [], ◌∷◌, ◌++◌, length, Option, Some, None, codes}
+use Rattle.std.specs.Fmt.{decimal}
+use Rattle.g_values.specs.declared.value.Value.{Value}
+use Rattle.g_diagram.specs.declared.place.Break.{Break}
+use Rattle.g_diagram.specs.declared.hierarchy.Vi.{Vi}
+use Rattle.g_diagram.specs.declared.hierarchy.Hierarchy.{Hierarchy}
+use Rattle.g_line.specs.declared.forms.Setting.{Setting}
+use Rattle.g_line.specs.declared.forms.Line.{Line}
+use Rattle.g_line.specs.declared.forms.Line.TheVariants.{Run}
+use Rattle.g_line.specs.Forms.{HasLine}
+use Rattle.g_line.specs.Usage.{IsFirstWrong}
+use Rattle.g_wires.specs.Breaks.{IsWiring}
+use Rattle.g_fire.specs.declared.firing.Firing.{Firing}
+use Rattle.g_fire.specs.declared.state.FireState.{FireState}
+use Rattle.g_fire.specs.Program.{program}
+use Rattle.g_fire.specs.declared.state.End.{End}
+use Rattle.g_fire.specs.declared.state.End.TheVariants.{Complete, Stalled, Unfinished}
+use Rattle.g_fire.specs.Run.{after, IsAtRest, end_of}
+use Rattle.g_fire.specs.Print.{print}
+use Rattle.grun.specs.Texts.{line_of, breaks_text}
+use Rattle.grun.specs.Listing.{hierarchy_of, IsListing}
+use Rattle.grun.specs.Settings.{Numbers, Wrong, Right, given, control_values}
+
+pub record Reply : Type 0 where
+  pub status : ℕ
+  pub text : List ℕ
+
+abbrev pub reply : ℕ → List ℕ → Reply
+reply status text = record { status = status; text = text }
+
+-- the most bytes of an input
+abbrev pub LIMIT : ℕ
+LIMIT = 16_777_216
+
+abbrev pub status_of : End → ℕ
+status_of Complete = 0
+status_of Stalled = 5
+status_of Unfinished = 0
+
+-- ---- the answer
+
+-- the bytes, short enough, are the listing of a VI of this name
+pub record IsFor (main : List ℕ) (bytes : List ℕ) (vi : Vi) : Type 0 where
+  pub name : vi.name ≡ main
+  pub short : length bytes ≤ LIMIT
+  pub listing : IsListing bytes vi
+
+-- a run with these values of the controls: its trace is allowed and leads to a state in which no node can fire; the reply is that of the state
+pub record Runs (h : Hierarchy) (controls : List Value) (trace : List Firing) (r : Reply) : Type 0 where
+  pub state : FireState
+  pub allowed : after (program h) controls trace ≡ Some state
+  pub rest : IsAtRest (program h) state
+  pub shown : r ≡ reply (status_of (end_of (program h) state)) (print (program h) state)
+
+-- the answer for a VI and settings
+pub data IsRunAnswer (vi : Vi) (settings : List Setting) : Option (List Firing) → Reply → Type 0 where
+  -- rules are broken: the whole list
+  broken : (bs : List Break) → IsWiring (hierarchy_of vi) bs → bs ≢ [] → IsRunAnswer vi settings None (reply 3 (breaks_text (vi ∷ []) bs))
+  -- a setting names no control, or one that was named before, or has no number for it
+  control : (k : ℕ) → IsWiring (hierarchy_of vi) [] → given vi.panel settings ≡ Wrong k → IsRunAnswer vi settings None (reply 4 (line_of (codes "control at word " ++ decimal (k + 3))))
+  -- a run
+  ran : (numbers : Numbers) (trace : List Firing) (r : Reply) → IsWiring (hierarchy_of vi) [] → given vi.panel settings ≡ Right numbers → Runs (hierarchy_of vi) (control_values vi.panel numbers) trace r → IsRunAnswer vi settings (Some trace) r
+
+-- the answer to words and bytes
+pub data IsAnswer (words : List (List ℕ)) (bytes : List ℕ) : Option (List Firing) → Reply → Type 0 where
+  -- no line has these words
+  usage : (k : ℕ) → IsFirstWrong words k → IsAnswer words bytes None (reply 1 (line_of (codes "usage at word " ++ decimal k)))
+  -- more bytes than an input may have
+  too_long : (line : Line) → HasLine words line → LIMIT < length bytes → IsAnswer words bytes None (reply 10 (line_of (codes "too long")))
+  -- the bytes are no listing of the VI that the words name
+  syntax : (main : List ℕ) (settings : List Setting) → HasLine words (Run main settings) → length bytes ≤ LIMIT → ((vi : Vi) → IsFor main bytes vi → ⊥) → IsAnswer words bytes None (reply 2 (line_of (codes "syntax")))
+  -- they are
+  listed : (main : List ℕ) (settings : List Setting) (vi : Vi) (trace : Option (List Firing)) (r : Reply) → HasLine words (Run main settings) → IsFor main bytes vi → IsRunAnswer vi settings trace r → IsAnswer words bytes trace r

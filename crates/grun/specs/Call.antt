@@ -1,0 +1,34 @@
+-- What a call does to its source and its sink.
+use Rattle.std.specs.Prelude.{◌≡◌, ℕ, ◌<◌, List, Option, Some, None, take, length, codes}
+use Rattle.std.specs.Io.KnownBytes.{Appends, Keeps}
+use Rattle.g_io.specs.Causes.{Rose}
+use Rattle.g_fire.specs.declared.firing.Firing.{Firing}
+use Rattle.grun.specs.Texts.{line_of}
+use Rattle.grun.specs.Answer.{Reply, IsAnswer, reply}
+
+abbrev pub read_fault : List ℕ
+read_fault = codes "read fault"
+
+-- what a sink held before and after, where it tells it, and its count of faults: the reply was written whole with its status; or a proper
+-- front of it with status 8, and then the count rose
+pub data Delivers (before after : Option (List ℕ)) (old new : ℕ) (r : Reply) (status : ℕ) : Type 0 where
+  whole : status ≡ r.status → Appends before after r.text → Delivers before after old new r status
+  part : status ≡ 8 → Rose old new → (n : ℕ) → n < length r.text → Appends before after (take n r.text) → Delivers before after old new r status
+
+-- the answer to the words and to the bytes that the source had left, where it tells them
+abbrev pub Answers : List (List ℕ) → Option (List ℕ) → Option (List Firing) → Reply → Type 0
+Answers words None trace r = Unit {0}
+Answers words (Some bytes) trace r = IsAnswer words bytes trace r
+
+-- what is answered: the answer, or that the source failed, whose count rose
+pub data Found (words : List (List ℕ)) (left : Option (List ℕ)) (source_old source_new : ℕ) (trace : Option (List Firing)) (r : Reply) : Type 0 where
+  answer : Answers words left trace r → Found words left source_old source_new trace r
+  fault : trace ≡ None → Rose source_old source_new → r ≡ reply 7 (line_of read_fault) → Found words left source_old source_new trace r
+
+-- how a call ends, and no other way is there: `left` is what the source had left, where it tells it; then come what the sink held and the
+-- counts of faults, of the source and of the sink
+pub data Ending (words : List (List ℕ)) (left before after : Option (List ℕ)) (source_old source_new sink_old sink_new : ℕ) (trace : Option (List Firing)) (status : ℕ) : Type 0 where
+  -- with the answer, or with a fault of the source
+  answered : (r : Reply) → Found words left source_old source_new trace r → Delivers before after sink_old sink_new r status → Ending words left before after source_old source_new sink_old sink_new trace status
+  -- for want of memory, with nothing written
+  out_of_memory : trace ≡ None → status ≡ 9 → Keeps before after → Ending words left before after source_old source_new sink_old sink_new trace status

@@ -1,0 +1,9 @@
+pub mod Pieces
+pub mod Reading
+pub mod Listing
+pub mod Views
+pub mod Settings
+pub mod GivenViews
+pub mod Texts
+pub mod Answer
+pub mod Call

@@ -1,0 +1,151 @@
+//! The answer to a line and a listing.
+
+ghost use Rattle.std.specs.Prelude.{◌≡◌, ◌<◌, ◌≤◌, ◌+◌, ◌∷◌, [], List as Row, ℕ, Some, None, length, IfOk, bytes_eq};
+ghost use Rattle.g_diagram.specs.Form.{IsForm, IsFormVi};
+ghost use Rattle.g_line.specs.declared.forms.Line.TheVariants.{Run};
+ghost use Rattle.g_line.specs.Forms.{HasLine};
+ghost use Rattle.g_fire.specs.declared.firing.Firing.{Firing};
+ghost use Rattle.g_fire.specs.Plan.{AreControls};
+ghost use Rattle.g_wires.specs.Breaks.{IsWiring};
+ghost use Rattle.grun.specs.Listing.{hierarchy_of};
+ghost use Rattle.grun.specs.Answer.{reply, status_of, Runs, IsRunAnswer, IsAnswer, LIMIT as MOST};
+
+use crate::form::listing;
+use crate::settings::{Given, control_names, go_through, values};
+use crate::texts::{breaks_text, fixed, numbered};
+use g_diagram::{Hierarchy, Vi};
+use g_fire::{End, Trace, end_at, run_all, state_text};
+use g_line::Setting;
+use g_lists::List;
+use g_types::{Bytes, Name};
+use g_values::ValueList;
+use g_wires::wiring;
+use std::alloc::{AllocError, Global};
+
+/// What is answered: a status, a text, and the firings of a run.
+#[derive(Drop)]
+pub(crate) struct Answer {
+    pub status: u8,
+    pub text: Bytes,
+    pub trace: Option<Trace>,
+}
+
+fn status(end: End) -> u8
+    ensures { result ≡ status_of end }
+{
+    match end {
+        End::Complete | End::Unfinished => 0,
+        End::Stalled => 5,
+    }
+}
+
+/// Runs a hierarchy, and shows how its run ended.
+fn run(alloc: Global, h: &Hierarchy, controls: ValueList) -> Result<Answer, AllocError>
+    requires form { IsForm h.now }
+    requires controls { AreControls h.now controls }
+    ensures { IfOk result (λ answer. (trace : Row Firing) × (answer.trace ≡ Some trace) × Runs h.now controls trace (reply answer.status answer.text)) }
+{
+    let ran = run_all(alloc, h, controls)?;
+    let end = end_at(alloc, h, &ran.state)?;
+    let text = state_text(alloc, h, &ran.state)?;
+    Ok(Answer {
+        status: status(end),
+        text,
+        trace: Some(ran.trace),
+    })
+}
+
+fn hierarchy(alloc: Global, vi: Vi) -> Result<Hierarchy, AllocError>
+    ensures { IfOk result (λ h. h ≡ hierarchy_of vi) }
+{
+    let mut vis = Vec::new(alloc);
+    vis.push(vi)?;
+    Ok(Hierarchy {
+        vis: List::from_vec(vis),
+    })
+}
+
+pub(crate) fn refused(status: u8, text: Bytes) -> Answer
+    ensures status { result.status ≡ status }
+    ensures text { result.text ≡ text }
+    ensures trace { result.trace ≡ None }
+{
+    Answer {
+        status,
+        text,
+        trace: None,
+    }
+}
+
+/// Which word a setting is, from 1: `run` and the name of the main VI stand before the settings.
+fn word_of(place: usize, _settings: &[Setting]) -> u64
+    requires { place < length _settings.now }
+    ensures { result ≡ place + 3 }
+{
+    place as u64 + 3
+}
+
+/// The answer for settings of a hierarchy of one VI whose rules are unbroken.
+fn answer_settings(
+    alloc: Global,
+    h: &Hierarchy,
+    vi: &Vi,
+    settings: &[Setting],
+) -> Result<Answer, AllocError>
+    requires one { h.now ≡ hierarchy_of vi.now }
+    requires form { IsForm h.now }
+    requires sound { IsWiring h.now [] }
+    ensures { IfOk result (λ answer. IsRunAnswer vi.now settings.now answer.trace (reply answer.status answer.text)) }
+{
+    let controls = control_names(alloc, vi.panel.as_slice())?;
+    match go_through(alloc, &controls, settings)? {
+        Given::Wrong(place) => {
+            let text = numbered(alloc, b"control at word ", word_of(place, settings))?;
+            Ok(refused(4, text))
+        }
+        Given::Right(numbers) => {
+            let values = values(alloc, &controls, &numbers)?;
+            run(alloc, h, ValueList::from_list(List::from_vec(values)))
+        }
+    }
+}
+
+/// The answer for a VI of the form.
+fn answer_vi(alloc: Global, vi: Vi, settings: &[Setting]) -> Result<Answer, AllocError>
+    requires { IsFormVi vi }
+    ensures { IfOk result (λ answer. IsRunAnswer vi settings.now answer.trace (reply answer.status answer.text)) }
+{
+    let h = hierarchy(alloc, vi)?;
+    let vi = &h.vis.as_slice()[0];
+    let breaks = wiring(alloc, &h, &vi.name)?;
+    if breaks.is_empty() {
+        return answer_settings(alloc, &h, vi, settings);
+    }
+    let text = breaks_text(alloc, h.vis.as_slice(), breaks.as_slice())?;
+    Ok(refused(3, text))
+}
+
+fn is_named(vi: &Vi, main: &Name) -> bool
+    ensures { result ≡ bytes_eq vi.now.name main.now }
+{
+    vi.name.as_slice() == main.as_slice()
+}
+
+/// The answer to a run of a listing.
+pub(crate) fn answer_line(
+    alloc: Global,
+    main: &Name,
+    settings: &[Setting],
+    bytes: &[u8],
+) -> Result<Answer, AllocError>
+    requires { length bytes.now ≤ MOST }
+    ensures { IfOk result (λ answer. (words : Row (Row ℕ)) → HasLine words (Run main.now settings.now) → IsAnswer words bytes.now answer.trace (reply answer.status answer.text)) }
+{
+    let Some(vi) = listing(alloc, bytes)? else {
+        return Ok(refused(2, fixed(alloc, b"syntax")?));
+    };
+    if !is_named(&vi, main) {
+        return Ok(refused(2, fixed(alloc, b"syntax")?));
+    }
+    answer_vi(alloc, vi, settings)
+}

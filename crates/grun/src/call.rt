@@ -1,0 +1,93 @@
+//! The top call.
+
+ghost use Rattle.std.specs.Prelude.{◌≡◌, ◌≤◌, map, None, IfOk};
+ghost use Rattle.std.specs.String.{string_bytes};
+ghost use Rattle.grun.specs.Call.{Delivers, Ending, Found};
+ghost use Rattle.grun.specs.Answer.{reply};
+
+use crate::answer::{Answer, answer_line, refused};
+use crate::texts::{fixed, numbered};
+use g_fire::Trace;
+use g_io::{ReadRefused, Sink, Source, read_all, write_all_of};
+use g_line::{Line, LineRefused, line};
+use std::alloc::{AllocError, Global};
+
+/// How a call ended: the status, and the firings of a run where what was to be written is a run's
+/// answer.
+#[derive(Drop)]
+pub struct Outcome {
+    pub status: u8,
+    pub trace: Option<Trace>,
+}
+
+/// The most bytes of an input.
+pub const LIMIT: usize = 16_777_216;
+
+/// Writes a text, and answers the status of that.
+fn deliver<K: Sink>(sink: &mut K, status: u8, text: &[u8]) -> u8
+    ensures later { K.faults sink.old ≤ K.faults sink.new }
+    ensures kept { K.made_with sink.new ≡ K.made_with sink.old }
+    ensures delivered { Delivers (K.held sink.old) (K.held sink.new) (K.faults sink.old) (K.faults sink.new) (reply status text.now) result }
+{
+    match write_all_of(sink, text) {
+        Ok(()) => status,
+        Err(_) => 8,
+    }
+}
+
+fn out_of_memory() -> Outcome
+    ensures status { result.status ≡ 9 }
+    ensures trace { result.trace ≡ None }
+{
+    Outcome {
+        status: 9,
+        trace: None,
+    }
+}
+
+/// Reads a listing from the source, does what the words say, and writes the answer to the sink.
+pub fn grun_call<S: Source, K: Sink>(
+    alloc: Global,
+    words: &Vec<String>,
+    source: &mut S,
+    sink: &mut K,
+) -> Outcome
+    ensures source_later { S.faults source.old ≤ S.faults source.new }
+    ensures sink_later { K.faults sink.old ≤ K.faults sink.new }
+    ensures kept { K.made_with sink.new ≡ K.made_with sink.old }
+    ensures ending { Ending (map string_bytes words.now.items) (S.left source.old) (K.held sink.old) (K.held sink.new)
+        (S.faults source.old) (S.faults source.new) (K.faults sink.old) (K.faults sink.new) result.trace result.status }
+{
+    let answer = match answer(alloc, words, source) {
+        Ok(answer) => answer,
+        Err(_) => return out_of_memory(),
+    };
+    Outcome {
+        status: deliver(sink, answer.status, answer.text.as_slice()),
+        trace: answer.trace,
+    }
+}
+
+/// The answer to words and to what the source has left.
+fn answer<S: Source>(
+    alloc: Global,
+    words: &Vec<String>,
+    source: &mut S,
+) -> Result<Answer, AllocError>
+    ensures later { S.faults source.old ≤ S.faults source.new }
+    ensures answer { IfOk result (λ answer. Found (map string_bytes words.now.items) (S.left source.old) (S.faults source.old) (S.faults source.new) answer.trace (reply answer.status answer.text)) }
+{
+    let (main, settings) = match line(alloc, words) {
+        Ok(Line::Run { main, settings }) => (main, settings),
+        Err(LineRefused::Usage(k)) => {
+            return Ok(refused(1, numbered(alloc, b"usage at word ", k)?));
+        }
+        Err(LineRefused::Memory(e)) => return Err(e),
+    };
+    match read_all(alloc, source, LIMIT) {
+        Ok(bytes) => answer_line(alloc, &main, settings.as_slice(), bytes.as_slice()),
+        Err(ReadRefused::Fault) => Ok(refused(7, fixed(alloc, b"read fault")?)),
+        Err(ReadRefused::TooLong) => Ok(refused(10, fixed(alloc, b"too long")?)),
+        Err(ReadRefused::Memory(e)) => Err(e),
+    }
+}

@@ -1,0 +1,86 @@
+//! The texts of refusals.
+
+ghost use Rattle.std.specs.Prelude.{◌≡◌, ◌++◌, ◌∷◌, [], IfOk, OnOk};
+ghost use Rattle.std.specs.Fmt.{decimal};
+ghost use Rattle.std.specs.String.{string_bytes};
+ghost use Rattle.grun.specs.Texts.{line_of, vi_name, place_text, break_text, breaks_text};
+
+use g_diagram::{Break, Place, Vi};
+use g_lists::List;
+use g_types::Bytes;
+use std::alloc::{AllocError, Global};
+
+fn push_number(alloc: Global, out: &mut Vec<u8>, number: u64) -> Result<(), AllocError>
+    ensures { OnOk result (out.new.items ≡ out.old.items ++ decimal number) }
+{
+    let text = number.to_string(alloc)?;
+    out.extend_from_slice(text.as_bytes())
+}
+
+/// A line of a fixed text and a number.
+pub(crate) fn numbered(alloc: Global, head: &[u8], number: u64) -> Result<Bytes, AllocError>
+    ensures { IfOk result (λ text. text ≡ line_of (head.now ++ decimal number)) }
+{
+    let mut out = Vec::new(alloc);
+    out.extend_from_slice(head)?;
+    push_number(alloc, &mut out, number)?;
+    out.push(b'\n')?;
+    Ok(List::from_vec(out))
+}
+
+/// A line of a fixed text.
+pub(crate) fn fixed(alloc: Global, text: &[u8]) -> Result<Bytes, AllocError>
+    ensures { IfOk result (λ line. line ≡ line_of text.now) }
+{
+    let mut out = Vec::new(alloc);
+    out.extend_from_slice(text)?;
+    out.push(b'\n')?;
+    Ok(List::from_vec(out))
+}
+
+fn vi_name(vis: &[Vi], number: u32) -> &[u8]
+    ensures { result.now ≡ vi_name vis.now number }
+{
+    match vis.get(number as usize) {
+        Some(vi) => vi.name.as_slice(),
+        None => &[],
+    }
+}
+
+/// `VI:L.O`
+fn push_place(alloc: Global, out: &mut Vec<u8>, vis: &[Vi], place: Place) -> Result<(), AllocError>
+    ensures { OnOk result (out.new.items ≡ out.old.items ++ place_text vis.now place) }
+{
+    out.extend_from_slice(vi_name(vis, place.vi))?;
+    out.push(b':')?;
+    push_number(alloc, out, place.line as u64)?;
+    out.push(b'.')?;
+    push_number(alloc, out, place.operand as u64)
+}
+
+/// `VI:L.O rule R` and a line feed.
+fn push_break(
+    alloc: Global,
+    out: &mut Vec<u8>,
+    vis: &[Vi],
+    broken: &Break,
+) -> Result<(), AllocError>
+    ensures { OnOk result (out.new.items ≡ out.old.items ++ break_text vis.now broken.now) }
+{
+    push_place(alloc, out, vis, broken.place)?;
+    out.extend_from_slice(b" rule ")?;
+    push_number(alloc, out, broken.rule as u64)?;
+    out.push(b'\n')?;
+    Ok(())
+}
+
+/// A line for each break.
+pub(crate) fn breaks_text(alloc: Global, vis: &[Vi], breaks: &[Break]) -> Result<Bytes, AllocError>
+    ensures { IfOk result (λ text. text ≡ breaks_text vis.now breaks.now) }
+{
+    let mut out = Vec::new(alloc);
+    for broken in breaks {
+        push_break(alloc, &mut out, vis, broken)?;
+    }
+    Ok(List::from_vec(out))
+}
