@@ -6,7 +6,7 @@ use Rattle.g_types.specs.declared.ty.Ty.{Ty}
 use Rattle.g_types.specs.declared.ty.Ty.TheVariants as ty
 use Rattle.g_types.specs.Same.{same_type}
 use Rattle.g_types.specs.Ty.{depth, is_num, is_nums}
-use Rattle.g_values.specs.Proper.{is_array}
+use Rattle.g_values.specs.Spelled.{is_array}
 use Rattle.g_values.specs.declared.primitive.Primitive.{Primitive}
 use Rattle.g_values.specs.declared.primitive.Primitive.TheVariants as op
 use Rattle.g_operations.specs.Row.{Row, Repeats, read, place, one, two, three}

@@ -1,7 +1,7 @@
 -- Which inputs an operation takes; the others are read.
 use Rattle.std.specs.Prelude.{ℕ, zero, suc, Bool, true, false, not, ◌&&◌, List, [], ◌∷◌}
 use Rattle.g_types.specs.declared.ty.Ty.{Ty}
-use Rattle.g_values.specs.Proper.{is_array}
+use Rattle.g_values.specs.Spelled.{is_array}
 use Rattle.g_values.specs.declared.primitive.Primitive.{Primitive}
 use Rattle.g_values.specs.declared.primitive.Primitive.TheVariants as op
 

@@ -31,7 +31,7 @@ pub enum Ty {
 /// Types in an order, as those of a cluster's elements.
 pub type TyList = List<Ty>;
 
-/// Whether the types are equal. Takes no memory.
+/// Whether the types are equal. Takes no memory. As of all equality, the order of the two is no matter.
 #[cycle(same)]
 pub fn same(a: &Ty, b: &Ty) -> bool
     ensures { IsTrue result ↔ (a.now ≡ b.now) }
@@ -138,7 +138,8 @@ fn is_nums(ty: &Ty) -> bool
 }
 
 /// Whether a value of the first type goes where one of the second is wanted: the types are equal, both
-/// are numbers, or both are arrays of numbers. Takes no memory.
+/// are numbers, or both are arrays of numbers. So it goes one way exactly where it goes the other: the
+/// contract is met with the two exchanged. Takes no memory.
 pub fn assignable(from: &Ty, to: &Ty) -> bool
     ensures { IsTrue result ↔ spec.IsAssignable from.now to.now }
 {

@@ -36,42 +36,20 @@ use Rattle.g_values.specs.Number.{num_of, wrap-in_range}
 use Rattle.g_values.specs.Numbers.{Numbers as Several}
 use Rattle.g_values.specs.Proper.{IsProper, IsLayer, IsWhole, IsArr, most}
 use Rattle.g_values.specs.Text.{text, quoted, bracketed, braced, truth_text, reference_text}
-use Rattle.g_values.specs.Value.{type_of, type_step}
+use Rattle.g_values.specs.Value.{type_of}
 use Rattle.g_values.proofs.ProperLemmas.{whole-in_cluster}
+use Rattle.g_values.proofs.TypesOf.{type-Num, type-Bool, type-Str, type-Nums, type-Arr, type-Cluster, type-Queue, type-Cell}
 use Rattle.g_values.proofs.TextLemmas.{text-Num, text-Bool, text-Str, text-Nums, text-Arr, text-Cluster, text-Queue, text-Cell}
 use Rattle.g_valtext.specs.Forms.{Form, Number, Truth, Text, Numbers, Items, Parts, Null, form, forms_of, items_of, rep_of}
 use Rattle.g_valtext.specs.Plain.{is_byte, is_plain, plain_step}
 use Rattle.g_valtext.specs.Spellings.{first_of, rest_of, of_form, values, grammars, number, number_within, is_within, parts, tokens, IsSpelling}
+use Rattle.g_valtext.proofs.Exact.{one_value}
 use Rattle.g_valtext.proofs.Pieces.{IsShort, finish, mark_piece, word_piece, number_piece, text_piece}
 use Rattle.g_valtext.proofs.Ranges.{kept, half_below}
 use Rattle.g_valtext.proofs.Spoken.{Spoken, Says, AllSay, Speak, array_says, parts_say}
 use Rattle.g_valtext.proofs.Steps.{form-Num, form-Bool, form-Str, form-Arr, form-Cluster, form-QueueRef, form-ValueRef, grammars-of}
 
--- ---- types and plainness, by the variants
-
-pub type-Num : (x : Num) → type_of (value.Num x) ≡ ty.Num x.rep
-type-Num x = ap type_of (sym (value.rolls-Num x)) ∙ fold-roll-Value Ty type_step (Value-F.Num x)
-
-pub type-Bool : (b : Bool) → type_of (value.Bool b) ≡ ty.Bool
-type-Bool b = ap type_of (sym (value.rolls-Bool b)) ∙ fold-roll-Value Ty type_step (Value-F.Bool b)
-
-pub type-Str : (s : List ℕ) → type_of (value.Str s) ≡ ty.Str
-type-Str s = ap type_of (sym (value.rolls-Str s)) ∙ fold-roll-Value Ty type_step (Value-F.Str s)
-
-pub type-Nums : (xs : Several) → type_of (value.Nums xs) ≡ ty.Arr (ty.Num xs.rep)
-type-Nums xs = ap type_of (sym (value.rolls-Nums xs)) ∙ fold-roll-Value Ty type_step (Value-F.Nums xs)
-
-pub type-Arr : (xs : ArrOf Value) → type_of (value.Arr xs) ≡ ty.Arr xs.elem
-type-Arr xs = ap type_of (sym (value.rolls-Arr xs)) ∙ fold-roll-Value Ty type_step (Value-F.Arr xs)
-
-pub type-Cluster : (vs : List Value) → type_of (value.Cluster vs) ≡ ty.Cluster (map type_of vs)
-type-Cluster vs = ap type_of (sym (value.rolls-Cluster vs)) ∙ fold-roll-Value Ty type_step (Value-F.Cluster vs)
-
-pub type-Queue : (r : RefValue) → type_of (value.Queue r) ≡ ty.QueueRef r.elem
-type-Queue r = ap type_of (sym (value.rolls-Queue r)) ∙ fold-roll-Value Ty type_step (Value-F.Queue r)
-
-pub type-Cell : (r : RefValue) → type_of (value.Cell r) ≡ ty.ValueRef r.elem
-type-Cell r = ap type_of (sym (value.rolls-Cell r)) ∙ fold-roll-Value Ty type_step (Value-F.Cell r)
+-- ---- plainness, by the variants
 
 plain-Str : (s : List ℕ) → is_plain (value.Str s) ≡ list_all is_byte s
 plain-Str s = ap is_plain (sym (value.rolls-Str s)) ∙ fold-roll-Value Bool plain_step (Value-F.Str s)
@@ -319,3 +297,7 @@ printed_spells v t w p h is e = subst (λ t. IsSpelling t w v) is (subst (λ w. 
 
 pub printed : (v : Value) (w : List ℕ) → w ≡ text v → IsProper v → IsTrue (is_plain v) → IsSpelling (type_of v) w v
 printed v w e p h = printed_spells v (type_of v) w p h refl e
+
+-- and no other value of its type
+pub printed_only : (v : Value) (w : List ℕ) → w ≡ text v → IsProper v → IsTrue (is_plain v) → (u : Value) → IsSpelling (type_of v) w u → u ≡ v
+printed_only v w e p h u is = one_value (type_of v) w u v is (printed v w e p h)

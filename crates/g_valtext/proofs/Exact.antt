@@ -22,6 +22,10 @@ only_by t text ts w v is e h =
     let both : ◌≡◌ {A = Result Value (List Token)} (Ok w) (Ok v) = sym e ∙ spells t text ts v is h in
     cc
 
+-- a text spells one value of a type at most
+pub one_value : (t : Ty) (text : List ℕ) (v w : Value) → IsSpelling t text v → IsSpelling t text w → v ≡ w
+one_value t text v w g h = only_by t text (tokens text) v w refl (spells t text (tokens text) v refl g) h
+
 pub never_by : (t : Ty) (text : List ℕ) (ts bad : List Token) (v : Value) → ts ≡ tokens text → all_read (read (values t) ts) ≡ Err bad → IsSpelling t text v → ⊥
 never_by t text ts bad v is e h =
     let both : ◌≡◌ {A = Result Value (List Token)} (Err bad) (Ok v) = sym e ∙ spells t text ts v is h in

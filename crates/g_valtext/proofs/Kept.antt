@@ -1,11 +1,11 @@
 -- What is read is of its type, and proper where its type is within the limits.
-use Rattle.std.proofs.Common.{◌≡◌, ℕ, zero, suc, ◌≤◌, Bool, true, false, List, [], ◌∷◌, length, map, Option, Some, None, refl, sym, ap, ◌∙◌, arith, subst, get_or, inl, inr, ◌⊎◌}
+use Rattle.std.proofs.Common.{◌≡◌, ℕ, zero, suc, ◌≤◌, Bool, true, false, List, [], ◌∷◌, length, map, Option, Some, None, refl, sym, ap, ◌∙◌, arith, subst, inl, inr, ◌⊎◌}
 use Rattle.std.specs.Prelude.{nat_le, if◌then◌else◌}
 use Rattle.std.specs.List.{All}
 use Rattle.std.specs.Option.{option_map}
 use Rattle.std.proofs.lemmas.Bool.{leb-true}
 use Rattle.std.proofs.lemmas.List.{length-map}
-use Rattle.std.proofs.lemmas.List.Elements.{All-nil, All-cons, All-head, All-tail, All-map, All-same}
+use Rattle.std.proofs.lemmas.List.Elements.{All-nil, All-cons, All-head, All-tail}
 use Rattle.g_grammar.specs.Grammar.{Grammar, give, take, first, tail, Has, or_else, ◌>>=◌}
 use Rattle.g_grammar.proofs.Live.{either_right}
 use Rattle.g_tokens.specs.declared.token.Token.{Token}
@@ -15,8 +15,8 @@ use Rattle.g_types.specs.declared.ty.Ty.{Ty, out-Ty}
 use Rattle.g_types.specs.declared.ty.Ty.TheVariants as ty
 use Rattle.g_types.specs.declared.ty.Ty.TheOpen.{Ty-F}
 use Rattle.g_types.specs.declared.ty.Ty.TheViews.{roll-Ty, roll-out-Ty}
-use Rattle.g_types.specs.declared.ty.Ty.TheFolds.{ind-Ty, map-Ty, every_held-Ty, every_here-Ty}
-use Rattle.g_types.specs.Ty.{depth, is_num, is_num_at}
+use Rattle.g_types.specs.declared.ty.Ty.TheFolds.{ind-Ty, map-Ty}
+use Rattle.g_types.specs.Ty.{is_num, is_num_at}
 use Rattle.g_values.specs.declared.num.Num.{Num}
 use Rattle.g_values.specs.declared.value.ArrOf.{ArrOf}
 use Rattle.g_values.specs.declared.value.RefValue.{RefValue}
@@ -26,13 +26,14 @@ use Rattle.g_values.specs.declared.value.Value.TheOpen.{Value-F}
 use Rattle.g_values.specs.declared.value.Value.TheFolds.{every_made-Value}
 use Rattle.g_values.specs.Number.{num_of}
 use Rattle.g_values.specs.Numbers.{Numbers as Several}
-use Rattle.g_values.specs.Proper.{IsProper, IsLayer, IsWhole, IsArr, most, is_array}
+use Rattle.g_values.specs.Proper.{IsProper, IsLayer, IsWhole, IsArr, most}
+use Rattle.g_values.specs.Spelled.{IsSpelled, IsWholeType}
 use Rattle.g_values.specs.Value.{type_of}
 use Rattle.g_values.proofs.ProperLemmas.{whole-made_cluster}
 use Rattle.g_valtext.specs.Forms.{Form, Number, Truth, Text, Numbers, Items, Parts, Null, form, forms_of, items_of, rep_of}
 use Rattle.g_valtext.specs.Spellings.{first_of, rest_of, of_form, values, grammars, number_within, truth, text_within, null, close_bracket, turn_rest, after_turn, further, from_first, array_rest, most_further, parts, parts_after}
-use Rattle.g_valtext.specs.Types.{IsLevel, HasLevels, IsType, AreParts}
-use Rattle.g_valtext.proofs.Back.{type-Num, type-Bool, type-Str, type-Nums, type-Arr, type-Cluster, type-Queue, type-Cell}
+use Rattle.g_values.proofs.SpelledTypes.{layer-Arr, layer-Cluster, whole-item, whole-parts}
+use Rattle.g_values.proofs.TypesOf.{type-Num, type-Bool, type-Str, type-Nums, type-Arr, type-Cluster, type-Queue, type-Cell}
 use Rattle.g_valtext.proofs.Steps.{form-Num, form-Bool, form-Str, form-Arr, form-Cluster, form-QueueRef, form-ValueRef, grammars-of}
 
 some_is : {A : Type 0} {x y : A} → Some x ≡ Some y → x ≡ y
@@ -96,7 +97,7 @@ text_short (token.Text bytes) s e = go (nat_le (length bytes) most) refl e
 text_short _ s e = absurd cc
 
 abbrev IsRead : Ty → Value → Type 0
-IsRead t v = (type_of v ≡ t) × (HasLevels t → IsWhole v)
+IsRead t v = (type_of v ≡ t) × (IsWholeType t → IsWhole v)
 
 whole-Num : (x : Num) → IsWhole (value.Num x)
 whole-Num x = subst IsWhole (value.rolls-Num x) (every_made-Value IsLayer (Value-F.Num x) (Value-F.Num x) refl tt)
@@ -162,41 +163,6 @@ read-Numbers r ts v rest h =
     let xs : Several = record { rep = r; all = all } in
     subst (IsRead (ty.Arr (ty.Num r))) h.3.3.0 (type-Nums xs, λ l. whole-Nums xs few)
 
-level-Arr : (t : Ty) → HasLevels (ty.Arr t) → is_array t ≡ false
-level-Arr t w = subst IsLevel (ty.outs-Arr t) (every_here-Ty IsLevel (ty.Arr t) w)
-
-level-Cluster : (ts : List Ty) → HasLevels (ty.Cluster ts) → AreParts ts
-level-Cluster ts w = subst IsLevel (ty.outs-Cluster ts) (every_here-Ty IsLevel (ty.Cluster ts) w)
-
-abbrev Levelled : Type 0
-Levelled = (t : Ty) × HasLevels t
-
-held_arr : (y : Ty-F Levelled) (t : Ty) → map-Ty Levelled Ty (λ p. p.0) y ≡ Ty-F.Arr t → HasLevels t
-held_arr (Ty-F.Arr q) t e = let m : q.0 ≡ t = cc in subst HasLevels m q.1
-held_arr (Ty-F.Num r) t e = absurd cc
-held_arr Ty-F.Bool t e = absurd cc
-held_arr Ty-F.Str t e = absurd cc
-held_arr (Ty-F.Cluster qs) t e = absurd cc
-held_arr (Ty-F.QueueRef q) t e = absurd cc
-held_arr (Ty-F.ValueRef q) t e = absurd cc
-
-held_cluster : (y : Ty-F Levelled) (ts : List Ty) → map-Ty Levelled Ty (λ p. p.0) y ≡ Ty-F.Cluster ts → All HasLevels ts
-held_cluster (Ty-F.Cluster qs) ts e =
-    let m : map (λ p. p.0) qs ≡ ts = cc in
-    All-same HasLevels ts (map (λ p. p.0) qs) (sym m) (All-map HasLevels (λ (p : Levelled). p.0) qs (λ k d lt. (get_or qs k d).1))
-held_cluster (Ty-F.Num r) ts e = absurd cc
-held_cluster Ty-F.Bool ts e = absurd cc
-held_cluster Ty-F.Str ts e = absurd cc
-held_cluster (Ty-F.Arr q) ts e = absurd cc
-held_cluster (Ty-F.QueueRef q) ts e = absurd cc
-held_cluster (Ty-F.ValueRef q) ts e = absurd cc
-
-levels-in_array : (t : Ty) → HasLevels (ty.Arr t) → HasLevels t
-levels-in_array t w = let h = every_held-Ty IsLevel (ty.Arr t) w in held_arr h.0 t (h.1 ∙ ty.outs-Arr t)
-
-levels-in_cluster : (ts : List Ty) → HasLevels (ty.Cluster ts) → All HasLevels ts
-levels-in_cluster ts w = let h = every_held-Ty IsLevel (ty.Cluster ts) w in held_cluster h.0 ts (h.1 ∙ ty.outs-Cluster ts)
-
 -- the values of a type are read as such
 abbrev Reads : Ty → Type 0
 Reads t = (ts : List Token) (v : Value) (rest : List Token) → Has (values t) ts v rest → IsRead t v
@@ -204,7 +170,7 @@ Reads t = (ts : List Token) (v : Value) (rest : List Token) → Has (values t) t
 abbrev Told : Type 0
 Told = (t : Ty) × Reads t
 
-both_all : (t : Ty) (vs : List Value) → All (IsRead t) vs → All (λ v. type_of v ≡ t) vs × (HasLevels t → All IsWhole vs)
+both_all : (t : Ty) (vs : List Value) → All (IsRead t) vs → All (λ v. type_of v ≡ t) vs × (IsWholeType t → All IsWhole vs)
 both_all t vs a = (λ k d lt. (a k d lt).0, λ l k d lt. (a k d lt).1 l)
 
 read-Items : (t : Ty) → Reads t → is_num t ≡ false → (ts : List Token) (v : Value) (rest : List Token) → Has (of_form (Items t (form t))) ts v rest → IsRead (ty.Arr t) v
@@ -215,14 +181,14 @@ read-Items t each apart ts v rest h =
     let all = array_all (first_of f) (rest_of f) (IsRead t) each h.1 items h.3.1 h.3.2 in
     let b = both_all t items all.0 in
     let xs : ArrOf Value = record { elem = t; items = items } in
-    subst (IsRead (ty.Arr t)) h.3.3.0 (type-Arr xs, λ l. whole-Arr xs (record { few = all.1; one_type = b.0; no_number = apart; no_array = level-Arr t l }) (b.1 (levels-in_array t l)))
+    subst (IsRead (ty.Arr t)) h.3.3.0 (type-Arr xs, λ l. whole-Arr xs (record { few = all.1; one_type = b.0; no_number = apart; no_array = layer-Arr t l }) (b.1 (whole-item t l)))
 
 abbrev AreRead : List Ty → List Value → Type 0
-AreRead types vs = (map type_of vs ≡ types) × (All HasLevels types → All IsWhole vs)
+AreRead types vs = (map type_of vs ≡ types) × (All IsWholeType types → All IsWhole vs)
 
 one_more : (t : Ty) (types : List Ty) (v : Value) (vs : List Value) → IsRead t v → AreRead types vs → AreRead (t ∷ types) (v ∷ vs)
 one_more t types v vs r rs =
-    (ap (λ u. u ∷ map type_of vs) r.0 ∙ ap (λ l. t ∷ l) rs.0, λ l. All-cons IsWhole v vs (r.1 (All-head HasLevels t types l)) (rs.1 (All-tail HasLevels t types l)))
+    (ap (λ u. u ∷ map type_of vs) r.0 ∙ ap (λ l. t ∷ l) rs.0, λ l. All-cons IsWhole v vs (r.1 (All-head IsWholeType t types l)) (rs.1 (All-tail IsWholeType t types l)))
 
 no_parts : AreRead [] []
 no_parts = (refl, λ l. All-nil IsWhole)
@@ -248,10 +214,10 @@ read-Cluster ps ts v rest h =
     subst (IsRead (ty.Cluster types)) h.3.3.0 (
       type-Cluster vs ∙ ap ty.Cluster r.0,
       λ l.
-          let is = level-Cluster types l in
+          let is = layer-Cluster types l in
           let some = is.some in
           let few = is.few in
-          whole-made_cluster vs (record { some = omega arith; few = omega arith }) (r.1 (levels-in_cluster types l)),
+          whole-made_cluster vs (record { some = omega arith; few = omega arith }) (r.1 (whole-parts types l)),
     )
 
 -- ---- all types
@@ -293,7 +259,7 @@ reads = ind-Ty Reads (λ x y is. subst (λ z. Reads (roll-Ty z)) is (told y))
 pub typed : (t : Ty) (ts : List Token) (v : Value) → Has (values t) ts v [] → type_of v ≡ t
 typed t ts v h = (reads t ts v [] h).0
 
-pub proper : (t : Ty) (ts : List Token) (v : Value) → Has (values t) ts v [] → IsType t → IsProper v
+pub proper : (t : Ty) (ts : List Token) (v : Value) → Has (values t) ts v [] → IsSpelled t → IsProper v
 proper t ts v h is =
     let r = reads t ts v [] h in
-    record { whole = r.1 is.levels; shallow = subst (λ t. depth t ≤ 8) (sym r.0) is.shallow }
+    record { whole = r.1 is.whole; spelled = subst IsSpelled (sym r.0) is }

@@ -3,6 +3,7 @@
 ghost use Rattle.std.specs.Prelude.{◌≡◌, ◌++◌, ◌<◌, map, IfOk, IsTrue, OnOk};
 ghost use Rattle.std.specs.Fmt.{signed_decimal};
 ghost use Rattle.g_types.specs.Ty.{joined};
+ghost use Rattle.g_values.specs.declared.value.Value.{Value as Item};
 ghost use Rattle.g_values.specs.Proper.{IsProper};
 ghost use Rattle.g_values.specs.Text as spec;
 ghost use Rattle.g_values.specs.Value.{type_of};
@@ -18,12 +19,13 @@ use std::alloc::{AllocError, Global};
 /// What stands between the items of an array or a cluster.
 const BETWEEN: &[u8] = b", ";
 
-/// The canonical text of a value. Where no reference in it is live, the text spells this value and,
-/// since a text spells one value of a type at most, no other of its type.
+/// The canonical text of a value. Where no reference in it is live, the text spells this value and no
+/// other of its type. Only want of memory refuses it.
 #[tactic(auto, using(crate::proofs::Back::printed))]
 pub fn print_value(alloc: Global, value: &Value) -> Result<Bytes, AllocError>
     ensures text { IfOk result (λ text. text ≡ spec.text value.now) }
     ensures spells { IfOk result (λ text. IsProper value.now → IsTrue (is_plain value.now) → IsSpelling (type_of value.now) text value.now) }
+    ensures only { IfOk result (λ text. IsProper value.now → IsTrue (is_plain value.now) → (v : Item) → IsSpelling (type_of value.now) text v → v ≡ value.now) }
 {
     let mut out = Vec::new(alloc);
     push_value(&mut out, value)?;

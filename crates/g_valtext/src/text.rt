@@ -5,13 +5,13 @@ ghost use Rattle.std.specs.List.{slice_index_or};
 ghost use Rattle.g_grammar.specs.Grammar.{all_read, read};
 ghost use Rattle.g_values.specs.declared.value.Value.{Value as Item};
 ghost use Rattle.g_values.specs.Proper.{IsProper};
+ghost use Rattle.g_values.specs.Spelled.{IsSpelled};
 ghost use Rattle.g_values.specs.Text as printed;
 ghost use Rattle.g_values.specs.Value.{type_of};
 ghost use Rattle.g_valtext.specs.Plain.{is_plain};
 ghost use Rattle.g_valtext.specs.Reads.{GivesAll};
 ghost use Rattle.g_valtext.specs.Refused.{IsCause, IsMemory};
 ghost use Rattle.g_valtext.specs.Spellings.{IsSpelling, values};
-ghost use Rattle.g_valtext.specs.Types.{IsType};
 
 use crate::read::value;
 use g_grammar::Stop;
@@ -62,7 +62,7 @@ fn place_at(places: &[usize], index: usize, end: usize) -> usize
 pub fn read_value(alloc: Global, ty: &Ty, text: &[u8]) -> Result<Value, ValueRefused>
     ensures spelled { IfOk result (IsSpelling ty.now text.now) }
     ensures typed { IfOk result (λ v. type_of v ≡ ty.now) }
-    ensures proper { IfOk result (λ v. IsType ty.now → IsProper v) }
+    ensures proper { IfOk result (λ v. IsSpelled ty.now → IsProper v) }
 
     // What the text spells is read, unless memory is wanting.
     ensures only { (v : Item) → IsSpelling ty.now text.now v → MatchResult result (λ w. w ≡ v) IsMemory }

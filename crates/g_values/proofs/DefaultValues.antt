@@ -1,16 +1,16 @@
 -- A default is of its type, and proper where a listing can write the type.
-use Rattle.std.proofs.Common.{◌≡◌, ◌≤◌, false, List, [], ◌∷◌, map, get_or, refl, ap, sym, ◌∙◌, subst, arith, None, pos, Ok, Err}
+use Rattle.std.proofs.Common.{◌≡◌, ◌≤◌, false, List, [], ◌∷◌, map, refl, ap, sym, ◌∙◌, subst, arith, None, pos, Ok, Err}
 use Rattle.std.specs.Prelude.{Result, IfOk}
 use Rattle.std.specs.declared.alloc.AllocError.{AllocError}
 use Rattle.std.specs.List.{All}
 use Rattle.std.proofs.lemmas.List.{length-map}
-use Rattle.std.proofs.lemmas.List.Elements.{All-nil, All-cons, All-head, All-tail, All-map, All-same}
+use Rattle.std.proofs.lemmas.List.Elements.{All-nil, All-cons, All-head, All-tail}
 use Rattle.g_types.specs.declared.ty.Ty.{Ty, out-Ty}
 use Rattle.g_types.specs.declared.ty.Ty.TheVariants as ty
 use Rattle.g_types.specs.declared.ty.Ty.TheViews.{roll-Ty, roll-out-Ty}
 use Rattle.g_types.specs.declared.ty.Ty.TheOpen.{Ty-F}
-use Rattle.g_types.specs.declared.ty.Ty.TheFolds.{ind-Ty, map-Ty, every_here-Ty, every_held-Ty}
-use Rattle.g_types.specs.Ty.{depth, is_num, is_num_at}
+use Rattle.g_types.specs.declared.ty.Ty.TheFolds.{ind-Ty, map-Ty, every_here-Ty}
+use Rattle.g_types.specs.Ty.{is_num, is_num_at}
 use Rattle.g_values.specs.declared.value.ArrOf.{ArrOf}
 use Rattle.g_values.specs.declared.value.RefValue.{RefValue}
 use Rattle.g_values.specs.declared.value.Value.{Value}
@@ -22,8 +22,9 @@ use Rattle.g_values.specs.Number.{num_of}
 use Rattle.g_values.specs.Numbers.{empty}
 use Rattle.g_values.specs.Value.{type_of}
 use Rattle.g_values.specs.Default.{default, empty_at}
-use Rattle.g_values.specs.Proper.{IsProper, IsLayer, IsWhole, IsCluster, is_array}
-use Rattle.g_values.specs.Spelled.{IsSpelled, IsTypeLayer, IsWholeType}
+use Rattle.g_values.specs.Proper.{IsProper, IsLayer, IsWhole, IsCluster}
+use Rattle.g_values.specs.Spelled.{IsSpelled, IsTypeLayer, IsWholeType, is_array}
+use Rattle.g_values.proofs.SpelledTypes.{whole-parts}
 use Rattle.g_values.proofs.TypesOf.{type-Num, type-Bool, type-Str, type-Nums, type-Arr, type-Cluster, type-Queue, type-Cell}
 use Rattle.g_values.proofs.ProperLemmas.{whole-made_cluster}
 use Rattle.g_values.proofs.Defaults.{default-Num, default-Bool, default-Str, default-Arr, default-QueueRef, default-ValueRef, default-Cluster}
@@ -70,25 +71,6 @@ IsWholeDefault t = IsWholeType t → IsWhole (default t)
 abbrev Defaulted : Type 0
 Defaulted = (t : Ty) × IsWholeDefault t
 
-abbrev WholeTypes : Type 0
-WholeTypes = (t : Ty) × IsWholeType t
-
-held : (y : Ty-F WholeTypes) (ts : List Ty) → map-Ty WholeTypes Ty (λ p. p.0) y ≡ Ty-F.Cluster ts → All IsWholeType ts
-held (Ty-F.Cluster qs) ts e =
-    let m : map (λ p. p.0) qs ≡ ts = cc in
-    All-same IsWholeType ts (map (λ p. p.0) qs) (sym m) (All-map IsWholeType (λ (p : WholeTypes). p.0) qs (λ k d lt. (get_or qs k d).1))
-held (Ty-F.Num x) ts e = absurd cc
-held Ty-F.Bool ts e = absurd cc
-held Ty-F.Str ts e = absurd cc
-held (Ty-F.Arr x) ts e = absurd cc
-held (Ty-F.QueueRef x) ts e = absurd cc
-held (Ty-F.ValueRef x) ts e = absurd cc
-
-parts_of_cluster : (ts : List Ty) → IsWholeType (ty.Cluster ts) → All IsWholeType ts
-parts_of_cluster ts w =
-    let h = every_held-Ty IsTypeLayer (ty.Cluster ts) w in
-    held h.0 ts (h.1 ∙ ty.outs-Cluster ts)
-
 -- values without parts
 abbrev Wholes : Type 0
 Wholes = (v : Value) × IsWhole v
@@ -128,7 +110,7 @@ whole_cluster ps w =
     let many = length-map ts default in
     let layer = subst IsTypeLayer (ty.outs-Cluster ts) (every_here-Ty IsTypeLayer (ty.Cluster ts) w) in
     let vs : IsCluster (map default ts) = record { some = subst (λ n. 1 ≤ n) (sym many) layer.some; few = subst (λ n. n ≤ 64) (sym many) layer.few } in
-    whole-made_cluster (map default ts) vs (each_whole ps (parts_of_cluster ts w))
+    whole-made_cluster (map default ts) vs (each_whole ps (whole-parts ts w))
 
 whole_level : (y : Ty-F Defaulted) → IsWholeDefault (roll-Ty (map-Ty Defaulted Ty (λ p. p.0) y))
 whole_level (Ty-F.Num r) = subst IsWholeDefault (sym (ty.rolls-Num r)) (λ w. subst IsWhole (sym (default-Num r)) (leaf (Value-F.Num (num_of r (pos 0))) (Value-F.Num (num_of r (pos 0))) refl tt (value.rolls-Num _)))
@@ -146,7 +128,7 @@ whole-default = ind-Ty IsWholeDefault (λ x y is. subst (λ l. IsWholeDefault (r
 
 -- a default is proper
 pub proper-default : (t : Ty) → IsSpelled t → IsProper (default t)
-proper-default t s = record { whole = whole-default t s.whole; shallow = subst (λ u. depth u ≤ 8) (sym (type-default t)) s.shallow }
+proper-default t s = record { whole = whole-default t s.whole; spelled = subst IsSpelled (sym (type-default t)) s }
 
 -- of the answer of a call
 pub typed_answer : (t : Ty) (r : Result Value AllocError) → IfOk r (λ v. v ≡ default t) → IfOk r (λ v. type_of v ≡ t)

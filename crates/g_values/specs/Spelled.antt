@@ -1,9 +1,15 @@
 -- Types that a listing can write.
-use Rattle.std.specs.Prelude.{false, List, ◌≡◌, ◌≤◌, length}
-use Rattle.g_types.specs.declared.ty.Ty.{Ty, every-Ty}
+use Rattle.std.specs.Prelude.{Bool, true, false, List, ◌≡◌, ◌≤◌, length}
+use Rattle.g_types.specs.declared.ty.Ty.{Ty, out-Ty, every-Ty}
 use Rattle.g_types.specs.declared.ty.Ty.TheOpen.{Ty-F}
 use Rattle.g_types.specs.Ty.{depth}
-use Rattle.g_values.specs.Proper.{is_array}
+
+abbrev pub is_array_at : Ty-F Ty → Bool
+is_array_at (Ty-F.Arr t) = true
+is_array_at _ = false
+
+abbrev pub is_array : Ty → Bool
+is_array t = is_array_at (out-Ty t)
 
 -- one level: an array's element is no array, and a cluster has 1 to 64 elements
 pub record IsClusterType (ts : List Ty) : Type 0 where
