@@ -5,6 +5,8 @@
 mod front;
 mod lines;
 mod numbers;
+#[cfg(test)]
+mod tests;
 mod texts;
 mod token;
 mod words;
