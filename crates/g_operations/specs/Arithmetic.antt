@@ -14,8 +14,11 @@ use Rattle.g_values.specs.declared.value.Value.TheOpen.{Value-F}
 abbrev pub nothing : Value
 nothing = value.Bool false
 
+abbrev pub numbers_of : Rep → List ℤ → Numbers
+numbers_of r all = record { rep = r; all = all }
+
 abbrev pub numbers : Rep → List ℤ → Value
-numbers r all = let xs : Numbers = record { rep = r; all = all } in value.Nums xs
+numbers r all = value.Nums (numbers_of r all)
 
 abbrev pub number : Rep → ℤ → Value
 number r n = value.Num (num_of r n)
@@ -26,11 +29,20 @@ number r n = value.Num (num_of r n)
 abbrev pub combined : (ℤ → ℤ → ℤ) → Rep → ℤ → ℤ → ℤ
 combined f r x y = wrap r (f x y)
 
+abbrev pub zipped : (ℤ → ℤ → ℤ) → Numbers → Numbers → Numbers
+zipped f xs ys = let r = wider xs.rep ys.rep in numbers_of r (zip2 (combined f r) xs.all ys.all)
+
+abbrev pub left : (ℤ → ℤ → ℤ) → Rep → Numbers → ℤ → Numbers
+left f r xs y = numbers_of r (map (λ x. combined f r x y) xs.all)
+
+abbrev pub right : (ℤ → ℤ → ℤ) → Rep → ℤ → Numbers → Numbers
+right f r x ys = numbers_of r (map (combined f r x) ys.all)
+
 abbrev pub arithmetic_at : (ℤ → ℤ → ℤ) → Value-F Value → Value-F Value → Value
 arithmetic_at f (Value-F.Num x) (Value-F.Num y) = number (wider x.rep y.rep) (f x.n y.n)
-arithmetic_at f (Value-F.Num x) (Value-F.Nums ys) = let r = wider x.rep ys.rep in numbers r (map (combined f r x.n) ys.all)
-arithmetic_at f (Value-F.Nums xs) (Value-F.Num y) = let r = wider xs.rep y.rep in numbers r (map (λ x. combined f r x y.n) xs.all)
-arithmetic_at f (Value-F.Nums xs) (Value-F.Nums ys) = let r = wider xs.rep ys.rep in numbers r (zip2 (combined f r) xs.all ys.all)
+arithmetic_at f (Value-F.Num x) (Value-F.Nums ys) = value.Nums (right f (wider x.rep ys.rep) x.n ys)
+arithmetic_at f (Value-F.Nums xs) (Value-F.Num y) = value.Nums (left f (wider xs.rep y.rep) xs y.n)
+arithmetic_at f (Value-F.Nums xs) (Value-F.Nums ys) = value.Nums (zipped f xs ys)
 arithmetic_at f _ _ = nothing
 
 abbrev pub arithmetic : (ℤ → ℤ → ℤ) → Value → Value → Value
@@ -47,13 +59,19 @@ times x y = x *ℤ y
 
 -- one operand, wrapped
 
+abbrev pub mapped : (ℤ → ℤ) → Numbers → Numbers
+mapped f xs = numbers_of xs.rep (map (λ x. wrap xs.rep (f x)) xs.all)
+
 abbrev pub each_at : (ℤ → ℤ) → Value-F Value → Value
 each_at f (Value-F.Num x) = number x.rep (f x.n)
-each_at f (Value-F.Nums xs) = numbers xs.rep (map (λ x. wrap xs.rep (f x)) xs.all)
+each_at f (Value-F.Nums xs) = value.Nums (mapped f xs)
 each_at f _ = nothing
 
 abbrev pub each : (ℤ → ℤ) → Value → Value
 each f x = each_at f (out-Value x)
+
+abbrev pub negated : ℤ → ℤ
+negated x = pos 0 -ℤ x
 
 abbrev pub increased : ℤ → ℤ
 increased x = x +ℤ pos 1
@@ -100,17 +118,14 @@ pair f g x y = pair_at f g (out-Value x) (out-Value y)
 
 -- the sum and the product of an array's numbers, wrapped
 
-abbrev pub total : List ℤ → ℤ
-total [] = pos 0
-total (x ∷ xs) = x +ℤ total xs
+abbrev pub accumulated : (ℤ → ℤ → ℤ) → ℤ → List ℤ → ℤ
+accumulated f n [] = n
+accumulated f n (x ∷ xs) = f x (accumulated f n xs)
 
-abbrev pub multiplied : List ℤ → ℤ
-multiplied [] = pos 1
-multiplied (x ∷ xs) = x *ℤ multiplied xs
+abbrev pub folded_at : (ℤ → ℤ → ℤ) → ℤ → Value-F Value → Value
+folded_at f n (Value-F.Nums xs) = number xs.rep (accumulated f n xs.all)
+folded_at f n _ = nothing
 
-abbrev pub folded_at : (List ℤ → ℤ) → Value-F Value → Value
-folded_at f (Value-F.Nums xs) = number xs.rep (f xs.all)
-folded_at f _ = nothing
-
-abbrev pub folded : (List ℤ → ℤ) → Value → Value
-folded f a = folded_at f (out-Value a)
+-- from the number of the empty array
+abbrev pub folded : (ℤ → ℤ → ℤ) → ℤ → Value → Value
+folded f n a = folded_at f n (out-Value a)

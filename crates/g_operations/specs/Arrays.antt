@@ -24,14 +24,25 @@ abbrev pub count : ℤ → ℕ
 count (pos n) = n
 count (negsuc n) = 0
 
+-- an index, if it isn't below 0
+abbrev pub index : ℤ → Option ℕ
+index (pos n) = Some n
+index (negsuc n) = None
+
+abbrev pub element_at : {A : Type 0} → List A → Option ℕ → Option A
+element_at xs None = None
+element_at xs (Some n) = slice_get xs n
+
 abbrev pub element : {A : Type 0} → List A → ℤ → Option A
-element xs (pos n) = slice_get xs n
-element xs (negsuc n) = None
+element xs i = element_at xs (index i)
 
 -- another element at a place; out of range nothing changes
+abbrev pub replaced_at : {A : Type 0} → List A → Option ℕ → A → List A
+replaced_at xs None x = xs
+replaced_at xs (Some n) x = set xs n x
+
 abbrev pub replaced : {A : Type 0} → List A → ℤ → A → List A
-replaced xs (pos n) x = set xs n x
-replaced xs (negsuc n) x = xs
+replaced xs i x = replaced_at xs (index i) x
 
 -- n elements from place i, cut at the end
 abbrev pub subset : {A : Type 0} → ℤ → ℤ → List A → List A

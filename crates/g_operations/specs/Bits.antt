@@ -1,5 +1,5 @@
 -- Operations bit by bit, on numbers and on Booleans.
-use Rattle.std.specs.Prelude.{ℕ, ℤ, zero, suc, pos, negsuc, ◌-ℤ◌, ◌*◌, ◌/◌, ◌^◌, Bool, false, not, List, map, cond, nat_lt, unsigned_abs}
+use Rattle.std.specs.Prelude.{ℕ, ℤ, zero, suc, pos, negsuc, ◌-ℤ◌, ◌*◌, ◌/◌, ◌^◌, Bool, false, not, ◌&&◌, ◌||◌, List, map, cond, nat_lt, unsigned_abs}
 use Rattle.std.specs.Int.{int_rem_euclid}
 use Rattle.std.specs.Simd.Lanes.{zip2}
 use Rattle.g_types.specs.declared.rep.Rep.{Rep}
@@ -16,6 +16,12 @@ use Rattle.g_operations.specs.Arithmetic.{nothing, number, arithmetic_at, each_a
 abbrev pub by_bits : (ℕ → ℕ → ℕ) → ℤ → ℤ → ℤ
 by_bits f x y = pos (f (word x) (word y))
 
+abbrev pub both : Bool → Bool → Bool
+both a b = a && b
+
+abbrev pub either : Bool → Bool → Bool
+either a b = a || b
+
 abbrev pub differs : Bool → Bool → Bool
 differs a b = cond a (not b) b
 
@@ -26,18 +32,21 @@ truth_at _ = false
 abbrev pub truth : Value → Bool
 truth v = truth_at (out-Value v)
 
+abbrev pub items_of : ArrOf Value → List Value → ArrOf Value
+items_of xs all = record { elem = xs.elem; items = all }
+
 abbrev pub items : ArrOf Value → List Value → Value
-items xs all = let ys : ArrOf Value = record { elem = xs.elem; items = all } in value.Arr ys
+items xs all = value.Arr (items_of xs all)
 
 -- two operands, as with arithmetic
-abbrev pub bitwise_at : (ℕ → ℕ → ℕ) → (Bool → Bool → Bool) → Value-F Value → Value-F Value → Value
+abbrev pub bitwise_at : (ℤ → ℤ → ℤ) → (Bool → Bool → Bool) → Value-F Value → Value-F Value → Value
 bitwise_at f g (Value-F.Bool a) (Value-F.Bool b) = value.Bool (g a b)
 bitwise_at f g (Value-F.Bool a) (Value-F.Arr ys) = items ys (map (λ y. value.Bool (g a (truth y))) ys.items)
 bitwise_at f g (Value-F.Arr xs) (Value-F.Bool b) = items xs (map (λ x. value.Bool (g (truth x) b)) xs.items)
 bitwise_at f g (Value-F.Arr xs) (Value-F.Arr ys) = items xs (zip2 (λ x y. value.Bool (g (truth x) (truth y))) xs.items ys.items)
-bitwise_at f g x y = arithmetic_at (by_bits f) x y
+bitwise_at f g x y = arithmetic_at f x y
 
-abbrev pub bitwise : (ℕ → ℕ → ℕ) → (Bool → Bool → Bool) → Value → Value → Value
+abbrev pub bitwise : (ℤ → ℤ → ℤ) → (Bool → Bool → Bool) → Value → Value → Value
 bitwise f g x y = bitwise_at f g (out-Value x) (out-Value y)
 
 -- all bits of a number are turned

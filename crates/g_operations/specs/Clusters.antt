@@ -19,10 +19,16 @@ abbrev pub or_nothing : Option Value → Value
 or_nothing None = nothing
 or_nothing (Some v) = v
 
+abbrev pub part_at : List Value → ℕ → Value
+part_at vs k = or_nothing (slice_get vs k)
+
 -- element k, from 0
 abbrev pub get : ℕ → Value → Value
-get k c = or_nothing (slice_get (parts c) k)
+get k c = part_at (parts c) k
 
 -- another element k, coerced to the type of the one that was there
+abbrev pub with_part : List Value → ℕ → Value → List Value
+with_part vs k e = set vs k (coerced e (type_of (part_at vs k)))
+
 abbrev pub put : ℕ → Value → Value → Value
-put k c e = value.Cluster (set (parts c) k (coerced e (type_of (get k c))))
+put k c e = value.Cluster (with_part (parts c) k e)

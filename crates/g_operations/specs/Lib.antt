@@ -7,5 +7,6 @@ pub mod Comparisons
 pub mod Arrays
 pub mod Strings
 pub mod Clusters
+pub mod Conditions
 pub mod Takes
 pub mod Values

@@ -1,11 +1,12 @@
 -- Operations on strings.
-use Rattle.std.specs.Prelude.{ℕ, ℤ, pos, neg_ℤ, ◌+◌, ◌-◌, ◌*◌, ◌^◌, Bool, true, false, ◌&&◌, ◌==◌, List, [], ◌∷◌, ◌++◌, map, length, cond, nat_lt, nat_le, Option, Some, None, unsigned_abs}
+use Rattle.std.specs.Prelude.{ℕ, ℤ, pos, neg_ℤ, ◌+◌, ◌-◌, ◌*◌, ◌^◌, Bool, true, false, ◌&&◌, ◌==◌, List, [], ◌∷◌, ◌++◌, map, length, cond, nat_lt, nat_le, Option, Some, None}
 use Rattle.std.specs.Fmt.{signed_decimal}
 use Rattle.g_types.specs.declared.rep.Rep.TheVariants.{I32, I64, U8}
 use Rattle.g_values.specs.declared.value.Value.{Value, out-Value}
 use Rattle.g_values.specs.declared.value.Value.TheVariants as value
 use Rattle.g_values.specs.declared.value.Value.TheOpen.{Value-F}
 use Rattle.g_operations.specs.Arithmetic.{number, numbers}
+use Rattle.g_operations.specs.Bits.{bits}
 use Rattle.g_operations.specs.Arrays.{subset, within, number_of}
 
 abbrev pub text_at : Value-F Value → List ℕ
@@ -31,8 +32,9 @@ abbrev pub byte_list : Value-F Value → List ℤ
 byte_list (Value-F.Nums xs) = xs.all
 byte_list _ = []
 
+-- a number of a byte is its own residue modulo 256
 abbrev pub bytes_str : Value → Value
-bytes_str a = value.Str (map unsigned_abs (byte_list (out-Value a)))
+bytes_str a = value.Str (map (bits U8) (byte_list (out-Value a)))
 
 abbrev pub num_str : Value → Value
 num_str x = value.Str (signed_decimal (number_of x))

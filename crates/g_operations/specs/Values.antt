@@ -1,22 +1,16 @@
 -- The values that each operation gives.
-use Rattle.std.specs.Prelude.{neg_ℤ, not, List, [], ◌∷◌, ◌&&◌, ◌||◌, bit_and, bit_or, bit_xor, Bool}
+use Rattle.std.specs.Prelude.{pos, not, List, [], ◌∷◌, bit_and, bit_or, bit_xor}
 use Rattle.g_types.specs.declared.rep.Rep.TheVariants.{I8, I16, I32, I64, U8, U16, U32, U64}
 use Rattle.g_values.specs.declared.value.Value.{Value}
 use Rattle.g_values.specs.declared.value.Value.TheVariants as value
 use Rattle.g_values.specs.declared.primitive.Primitive.{Primitive}
 use Rattle.g_values.specs.declared.primitive.Primitive.TheVariants as op
-use Rattle.g_operations.specs.Arithmetic.{number, arithmetic, plus, minus, times, each, increased, decreased, absolute, converted, quotient, remainder, greater, lesser, pair, folded, total, multiplied}
-use Rattle.g_operations.specs.Bits.{bitwise, differs, inverted, shift, truth}
+use Rattle.g_operations.specs.Arithmetic.{number, arithmetic, plus, minus, times, each, negated, increased, decreased, absolute, converted, quotient, remainder, greater, lesser, pair, folded}
+use Rattle.g_operations.specs.Bits.{bitwise, by_bits, both, either, differs, inverted, shift, truth}
 use Rattle.g_operations.specs.Comparisons.{equal, less, select, truth_number, all_true, any_true}
 use Rattle.g_operations.specs.Arrays.{array_size, index_array, replace, build, concat, initialize, array_subset, delete, reversed, sort, search}
 use Rattle.g_operations.specs.Strings.{str_len, str_concat, str_subset, str_bytes, bytes_str, num_str, str_num}
 use Rattle.g_operations.specs.Clusters.{parts, get, put}
-
-abbrev pub and : Bool → Bool → Bool
-and a b = a && b
-
-abbrev pub or : Bool → Bool → Bool
-or a b = a || b
 
 -- the values of the outputs, where the types of the inputs have a row
 abbrev pub outputs_of : Primitive → List Value → List Value
@@ -25,13 +19,13 @@ outputs_of op.Sub (x ∷ y ∷ []) = arithmetic minus x y ∷ []
 outputs_of op.Mul (x ∷ y ∷ []) = arithmetic times x y ∷ []
 outputs_of op.Inc (x ∷ []) = each increased x ∷ []
 outputs_of op.Dec (x ∷ []) = each decreased x ∷ []
-outputs_of op.Neg (x ∷ []) = each neg_ℤ x ∷ []
+outputs_of op.Neg (x ∷ []) = each negated x ∷ []
 outputs_of op.Abs (x ∷ []) = each absolute x ∷ []
 outputs_of op.QuotRem (x ∷ y ∷ []) = pair quotient remainder x y
 outputs_of op.MaxMin (x ∷ y ∷ []) = pair greater lesser x y
-outputs_of op.And (x ∷ y ∷ []) = bitwise bit_and and x y ∷ []
-outputs_of op.Or (x ∷ y ∷ []) = bitwise bit_or or x y ∷ []
-outputs_of op.Xor (x ∷ y ∷ []) = bitwise bit_xor differs x y ∷ []
+outputs_of op.And (x ∷ y ∷ []) = bitwise (by_bits bit_and) both x y ∷ []
+outputs_of op.Or (x ∷ y ∷ []) = bitwise (by_bits bit_or) either x y ∷ []
+outputs_of op.Xor (x ∷ y ∷ []) = bitwise (by_bits bit_xor) differs x y ∷ []
 outputs_of op.Not (x ∷ []) = inverted x ∷ []
 outputs_of op.Shift (x ∷ n ∷ []) = shift x n ∷ []
 outputs_of op.ToI8 (x ∷ []) = converted I8 x ∷ []
@@ -62,8 +56,8 @@ outputs_of op.Subset (a ∷ i ∷ n ∷ []) = array_subset a i n ∷ []
 outputs_of op.Delete (a ∷ i ∷ n ∷ []) = delete a i n
 outputs_of op.Reverse (a ∷ []) = reversed a ∷ []
 outputs_of op.Sort (a ∷ []) = sort a ∷ []
-outputs_of op.Sum (a ∷ []) = folded total a ∷ []
-outputs_of op.Product (a ∷ []) = folded multiplied a ∷ []
+outputs_of op.Sum (a ∷ []) = folded plus (pos 0) a ∷ []
+outputs_of op.Product (a ∷ []) = folded times (pos 1) a ∷ []
 outputs_of op.Search (a ∷ e ∷ []) = search a e ∷ []
 outputs_of op.StrLen (s ∷ []) = str_len s ∷ []
 outputs_of op.StrConcat (s ∷ t ∷ []) = str_concat s t ∷ []

@@ -1,0 +1,4 @@
+pub mod Examples
+pub mod Folds
+pub mod RowExamples
+pub mod RowLemmas

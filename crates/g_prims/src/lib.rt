@@ -1,0 +1,16 @@
+//! The primitives: the types that each gives for the types of its inputs.
+#![tactic(auto)]
+
+mod array_rows;
+mod cluster_rows;
+mod kinds;
+mod number_rows;
+mod outs;
+mod refusal;
+mod rows;
+mod string_rows;
+#[cfg(test)]
+mod tests;
+
+pub use refusal::RowRefused;
+pub use rows::type_row;
