@@ -128,7 +128,7 @@ found (x ∷ es) n (suc k) e up at =
     ap (λ b. cond (b && (x.diagram == 0)) (Some x) (node_at 0 e.line es)) (not_equal x.line e.line (omega (arith, ascends_less es (x.line + 1) k e up.2 at)))
     ∙ found es (x.line + 1) k e up.2 at
 
-map_at : {A B : Type 0} (f : A → B) (xs : List A) (k : ℕ) (y : B) → slice_get (map f xs) k ≡ Some y → (x : A) × (slice_get xs k ≡ Some x) × (f x ≡ y)
+pub map_at : {A B : Type 0} (f : A → B) (xs : List A) (k : ℕ) (y : B) → slice_get (map f xs) k ≡ Some y → (x : A) × (slice_get xs k ≡ Some x) × (f x ≡ y)
 map_at f [] k y at = absurd (none_some at)
   where
     none_some : None ≡ Some y → ⊥

@@ -20,7 +20,7 @@ use Rattle.g_fire.proofs.Bridge.{can_at}
 use Rattle.g_fire.proofs.RunLemmas.{start_frames}
 
 -- no firing opens or closes a frame
-fire_frames : (p : Program) (s : FireState) (x : Firing) → (fire p s x).frames ≡ s.frames
+pub fire_frames : (p : Program) (s : FireState) (x : Firing) → (fire p s x).frames ≡ s.frames
 fire_frames p s x = by (effect_of p s x)
   where
     by : (o : Option Effect) → (or_same s x o).frames ≡ s.frames
@@ -71,7 +71,7 @@ diagrams n [] up k e at = absurd (refute (ap is_some at))
 diagrams n (x ∷ es) up zero e at = ap (λ y. y.diagram) (sym (some_is x e at)) ∙ up.1
 diagrams n (x ∷ es) up (suc k) e at = diagrams (x.line + 1) es up.2 k e at
 
-mapped_at : {A B : Type 0} (f : A → B) (xs : List A) (k : ℕ) (x : A) → slice_get xs k ≡ Some x → slice_get (map f xs) k ≡ Some (f x)
+pub mapped_at : {A B : Type 0} (f : A → B) (xs : List A) (k : ℕ) (x : A) → slice_get xs k ≡ Some x → slice_get (map f xs) k ≡ Some (f x)
 mapped_at f [] k x at = absurd (refute (ap is_some at))
 mapped_at f (y ∷ xs) zero x at = ap (λ z. Some (f z)) (some_is y x at)
 mapped_at f (y ∷ xs) (suc k) x at = mapped_at f xs k x at

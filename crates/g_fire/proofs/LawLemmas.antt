@@ -28,7 +28,7 @@ composes p (x ∷ xs) ys s = by (can_fire p s x) (composes p xs ys (fire p s x))
     by true rest = rest
     by false rest = refl
 
-put_stays : (t u : Terminal) (w v : Value) (es : List (Terminal × Value)) → value_at t es ≡ Some v → value_at t (put_value es u w) ≡ Some v
+pub put_stays : (t u : Terminal) (w v : Value) (es : List (Terminal × Value)) → value_at t es ≡ Some v → value_at t (put_value es u w) ≡ Some v
 put_stays t u w v [] h = cc
 put_stays t u w v (e ∷ es) h = by (same_terminal u e.0) (same_terminal t e.0) refl h (put_stays t u w v es)
   where
@@ -148,7 +148,7 @@ not_with_choice : (b : Bool) (e : Option Effect) → is_some (guard (b && false)
 not_with_choice true e = refl
 not_with_choice false e = refl
 
-choice_refused : (p : Program) (s : FireState) (frame line choice : ℕ) → can_fire p s (record { frame = frame; node = line; choice = Some choice }) ≡ false
+pub choice_refused : (p : Program) (s : FireState) (frame line choice : ℕ) → can_fire p s (record { frame = frame; node = line; choice = Some choice }) ≡ false
 choice_refused p s frame line choice = in_frame (slice_get s.frames frame)
   where
     in_node : (f : Frame) (vi : FlatVi) (o : Option Entry) → is_some (on_node s frame f (reader_in s frame f vi) (Some choice) o) ≡ false

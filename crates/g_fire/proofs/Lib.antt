@@ -8,6 +8,10 @@ pub mod PlanLemmas
 pub mod RunLemmas
 pub mod EndLemmas
 pub mod LawLemmas
+pub mod Places
+pub mod ShapeLemmas
+pub mod GivenLemmas
+pub mod FinishLemmas
 pub mod Compute
 pub mod Words
 pub mod Rows

@@ -118,7 +118,7 @@ all_inputs_i32 s all (i ∷ ins) w h =
     (input_i32 s all i (and_left (is_wired i) (list_all is_wired ins) w) (and_left (has_input s i) (list_all (has_input s) ins) h))
     (all_inputs_i32 s all ins (and_right (is_wired i) (list_all is_wired ins) w) (and_right (has_input s i) (list_all (has_input s) ins) h))
 
-values_len : (s : FireState) (ins : List Input) → length (map (value_of_input s) ins) ≡ length ins
+pub values_len : (s : FireState) (ins : List Input) → length (map (value_of_input s) ins) ≡ length ins
 values_len s [] = refl
 values_len s (i ∷ ins) = ap (λ n. suc n) (values_len s ins)
 

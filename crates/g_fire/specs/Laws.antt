@@ -1,15 +1,23 @@
 -- What holds of every run of the firing machine.
-use Rattle.std.specs.Prelude.{◌≡◌, ◌↔◌, ℕ, ◌+◌, true, List, [], ◌∷◌, ◌++◌, length, Option, Some, None}
+use Rattle.std.specs.Prelude.{◌≡◌, ◌↔◌, ℕ, ◌+◌, Bool, true, ◌||◌, not, IsTrue, List, [], ◌∷◌, ◌++◌, length, Option, Some, None}
+use Rattle.std.specs.List.{list_all, list_any}
 use Rattle.g_values.specs.declared.value.Value.{Value}
+use Rattle.g_diagram.specs.declared.hierarchy.Hierarchy.{Hierarchy}
+use Rattle.g_diagram.specs.declared.hierarchy.Vi.{Vi}
+use Rattle.g_diagram.specs.Form.{IsForm}
+use Rattle.g_diagram.specs.Leads.{Leads}
+use Rattle.g_diagram.specs.Ports.{Port, ports_of, sources, consumers, is_wired, are_joined, has_wire}
 use Rattle.g_fire.specs.declared.firing.Firing.{Firing}
 use Rattle.g_fire.specs.declared.firing.FrameNode.{FrameNode}
 use Rattle.g_fire.specs.declared.maps.Terminal.{Terminal}
+use Rattle.g_fire.specs.declared.state.End.TheVariants.{Complete}
 use Rattle.g_fire.specs.declared.state.FireState.{FireState}
 use Rattle.g_fire.specs.declared.state.Fired.{Fired}
 use Rattle.g_fire.specs.Maps.{value_at}
-use Rattle.g_fire.specs.Program.{Program}
+use Rattle.g_fire.specs.Plan.{AreControls}
+use Rattle.g_fire.specs.Program.{Program, program}
 use Rattle.g_fire.specs.Fire.{can_fire, fire}
-use Rattle.g_fire.specs.Run.{after_from, first_refused, is_at_rest, IsAtRest}
+use Rattle.g_fire.specs.Run.{after, after_from, first_refused, is_at_rest, IsAtRest, end_of}
 
 abbrev pub and_then : Option FireState → (FireState → Option FireState) → Option FireState
 and_then None next = None
@@ -39,3 +47,18 @@ RestsExactly = (p : Program) (s : FireState) → (is_at_rest p s ≡ true) ↔ I
 -- the first refused firing is there exactly where a trace isn't allowed
 abbrev pub RefusesExactly : Type 0
 RefusesExactly = (p : Program) (k : ℕ) (xs : List Firing) (s : FireState) → (first_refused p k xs s ≡ None) ↔ ((t : FireState) × (after_from p xs s ≡ Some t))
+
+-- a consumer that has a name is joined to a source
+abbrev pub has_source : List Port → Port → Bool
+has_source ps c = not (is_wired c) || list_any (λ s. are_joined s c) (sources ps)
+
+-- the wires of a VI: each consumer that has a name is joined to a source, and from no node do wires lead to itself
+pub record IsWellWired (ps : List Port) : Type 0 where
+  pub sourced : IsTrue (list_all (has_source ps) (consumers ps))
+  pub acyclic : (line : ℕ) → Leads (has_wire ps) line line → ⊥
+
+-- a run of a well-wired VI never stalls: where nothing can fire, all nodes are done
+abbrev pub Finishes : Type 0
+Finishes =
+    (h : Hierarchy) (controls : List Value) (trace : List Firing) (s : FireState) → IsForm h → ((vi : Vi) → h.vis ≡ vi ∷ [] → IsWellWired (ports_of h.vis vi)) → AreControls h controls
+    → after (program h) controls trace ≡ Some s → IsAtRest (program h) s → end_of (program h) s ≡ Complete

@@ -1,4 +1,5 @@
 use Rattle.g_fire.proofs.LawLemmas.{composes, values_stay, counts_one, rest_tested, rest_refuses, not_refused, allowed_not_refused}
+use Rattle.g_fire.proofs.FinishLemmas.{finishes}
 use Rattle.g_fire.proofs.laws.run_laws.Goals as goal
 
 pub returns-clause-composes : goal.returns-clause-composes
@@ -15,3 +16,6 @@ returns-clause-rests c = λ p s. (rest_refuses p s, rest_tested p s)
 
 pub returns-clause-refuses : goal.returns-clause-refuses
 returns-clause-refuses c = λ p k xs s. (not_refused p k xs s, allowed_not_refused p k xs s)
+
+pub returns-clause-finishes : goal.returns-clause-finishes
+returns-clause-finishes c = finishes
