@@ -4,7 +4,7 @@ use Rattle.std.specs.Prelude.{is_some}
 use Rattle.g_types.specs.declared.ty.Ty.{Ty}
 use Rattle.g_types.specs.Same.{same_type}
 use Rattle.g_types.proofs.SameLemmas.{same_type-true}
-use Rattle.g_values.specs.Proper.{is_array}
+use Rattle.g_values.specs.Spelled.{is_array}
 use Rattle.g_values.specs.Value.{type_of}
 use Rattle.g_values.specs.declared.value.Value.{Value}
 use Rattle.g_values.specs.declared.primitive.Primitive.{Primitive}
