@@ -6,10 +6,9 @@ use lib.Signed.{mag}
 use Rattle.std.specs.Borrow.{Bor}
 use Rattle.std.specs.Map.{lookup}
 use Rattle.std.specs.List.{list_any}
-use Rattle.grun.specs.Pieces.{number_of}
 use Rattle.std.proofs.lemmas.List.{map-append}
 use Rattle.g_line.specs.declared.forms.Setting.{Setting}
-use Rattle.grun.specs.Settings.{Wrong, find, number_for, take_setting, given_from}
+use Rattle.grun.specs.Settings.{Wrong, find, spelled_number, number_for, take_setting, given_from}
 use Rattle.grun.specs.Views.{entries_of, texts_of}
 
 abbrev pub Entry : Type 0
@@ -47,7 +46,7 @@ entries-more es e = map-append (λ (e : Entry). (e.0.now, e.1)) es (e ∷ [])
 
 -- the known names are those of the controls
 pub number_known : (keys controls : List (List ℕ)) (s : Setting) → list_any (bytes_eq s.name) keys ≡ list_any (bytes_eq s.name) controls → number_for keys s ≡ number_for controls s
-number_known keys controls s e = ap (λ b. cond b (number_of s.text) None) e
+number_known keys controls s e = ap (λ b. cond b (spelled_number s.text) None) e
 
 pub values-texts : {A : Type 0} (g : List ℕ → A) (names : List (Bor (List ℕ))) → map (λ (n : Bor (List ℕ)). g n.now) names ≡ map g (texts_of names)
 values-texts g [] = refl

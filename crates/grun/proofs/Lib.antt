@@ -8,4 +8,7 @@ pub mod ReadLaws
 pub mod ListingLaws
 pub mod Distinct
 pub mod Finding
+pub mod Spelled
 pub mod Settled
+pub mod WellWired
+pub mod Examples

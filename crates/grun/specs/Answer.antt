@@ -14,8 +14,7 @@ use Rattle.g_wires.specs.Breaks.{IsWiring}
 use Rattle.g_fire.specs.declared.firing.Firing.{Firing}
 use Rattle.g_fire.specs.declared.state.FireState.{FireState}
 use Rattle.g_fire.specs.Program.{program}
-use Rattle.g_fire.specs.declared.state.End.{End}
-use Rattle.g_fire.specs.declared.state.End.TheVariants.{Complete, Stalled, Unfinished}
+use Rattle.g_fire.specs.declared.state.End.TheVariants.{Complete}
 use Rattle.g_fire.specs.Run.{after, IsAtRest, end_of}
 use Rattle.g_fire.specs.Print.{print}
 use Rattle.grun.specs.Texts.{line_of, breaks_text}
@@ -33,11 +32,6 @@ reply status text = record { status = status; text = text }
 abbrev pub LIMIT : ℕ
 LIMIT = 16_777_216
 
-abbrev pub status_of : End → ℕ
-status_of Complete = 0
-status_of Stalled = 5
-status_of Unfinished = 0
-
 -- ---- the answer
 
 -- the bytes, short enough, are the listing of a VI of this name
@@ -46,12 +40,14 @@ pub record IsFor (main : List ℕ) (bytes : List ℕ) (vi : Vi) : Type 0 where
   pub short : length bytes ≤ LIMIT
   pub listing : IsListing bytes vi
 
--- a run with these values of the controls: its trace is allowed and leads to a state in which no node can fire; the reply is that of the state
+-- a run with these values of the controls: its trace is allowed and leads to a state in which no node can fire and each was fired; the reply
+-- shows that state
 pub record Runs (h : Hierarchy) (controls : List Value) (trace : List Firing) (r : Reply) : Type 0 where
   pub state : FireState
   pub allowed : after (program h) controls trace ≡ Some state
   pub rest : IsAtRest (program h) state
-  pub shown : r ≡ reply (status_of (end_of (program h) state)) (print (program h) state)
+  pub complete : end_of (program h) state ≡ Complete
+  pub shown : r ≡ reply 0 (print (program h) state)
 
 -- the answer for a VI and settings
 pub data IsRunAnswer (vi : Vi) (settings : List Setting) : Option (List Firing) → Reply → Type 0 where

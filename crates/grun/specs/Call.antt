@@ -1,5 +1,5 @@
 -- What a call does to its source and its sink.
-use Rattle.std.specs.Prelude.{◌≡◌, ℕ, ◌<◌, List, Option, Some, None, take, length, codes}
+use Rattle.std.specs.Prelude.{◌≡◌, ℕ, ◌<◌, ◌==◌, Bool, ◌||◌, List, Option, Some, None, take, length, codes}
 use Rattle.std.specs.Io.KnownBytes.{Appends, Keeps}
 use Rattle.g_io.specs.Causes.{Rose}
 use Rattle.g_fire.specs.declared.firing.Firing.{Firing}
@@ -15,10 +15,14 @@ pub data Delivers (before after : Option (List ℕ)) (old new : ℕ) (r : Reply)
   whole : status ≡ r.status → Appends before after r.text → Delivers before after old new r status
   part : status ≡ 8 → Rose old new → (n : ℕ) → n < length r.text → Appends before after (take n r.text) → Delivers before after old new r status
 
--- the answer to the words and to the bytes that the source had left, where it tells them
+-- the answer to the words and to the bytes that the source had left; to some bytes, where it doesn't tell them
 abbrev pub Answers : List (List ℕ) → Option (List ℕ) → Option (List Firing) → Reply → Type 0
-Answers words None trace r = Unit {0}
+Answers words None trace r = (bytes : List ℕ) × IsAnswer words bytes trace r
 Answers words (Some bytes) trace r = IsAnswer words bytes trace r
+
+-- the statuses that say that the input was read to its end
+abbrev pub has_read : ℕ → Bool
+has_read n = (n == 0) || ((n == 2) || ((n == 3) || (n == 4)))
 
 -- what is answered: the answer, or that the source failed, whose count rose
 pub data Found (words : List (List ℕ)) (left : Option (List ℕ)) (source_old source_new : ℕ) (trace : Option (List Firing)) (r : Reply) : Type 0 where

@@ -1,15 +1,20 @@
 -- What settings say of controls: each names a control that no setting before it named, and has a number for it; a control that none names
 -- has the default of its type.
-use Rattle.std.specs.Prelude.{ℕ, ◌+◌, ℤ, pos, List, [], ◌∷◌, ◌++◌, map, bytes_eq, Option, Some, None, if◌then◌else◌}
+use Rattle.std.specs.Prelude.{ℕ, ◌+◌, ℤ, pos, List, [], ◌∷◌, ◌++◌, map, bytes_eq, Option, Some, None, Result, Ok, Err, if◌then◌else◌}
 use Rattle.std.specs.List.{list_any}
+use Rattle.g_grammar.specs.Grammar.{all_read, read}
+use Rattle.g_tokens.specs.declared.token.Token.{Token}
 use Rattle.g_types.specs.declared.rep.Rep.TheVariants.{I32}
-use Rattle.g_values.specs.declared.value.Value.{Value}
+use Rattle.g_types.specs.declared.ty.Ty.{Ty}
+use Rattle.g_types.specs.declared.ty.Ty.TheVariants as ty
+use Rattle.g_values.specs.declared.value.Value.{Value, out-Value}
+use Rattle.g_values.specs.declared.value.Value.TheOpen.{Value-F}
 use Rattle.g_values.specs.declared.value.Value.TheVariants as value
 use Rattle.g_values.specs.Number.{num_of}
+use Rattle.g_valtext.specs.Spellings.{values, tokens}
 use Rattle.g_diagram.specs.declared.panel.PanelItem.{PanelItem}
 use Rattle.g_diagram.specs.declared.panel.PanelItem.TheVariants.{Control, Indicator}
 use Rattle.g_line.specs.declared.forms.Setting.{Setting}
-use Rattle.grun.specs.Pieces.{number_of}
 
 -- the names of the controls, in listing order
 abbrev pub control_names : List PanelItem → List (List ℕ)
@@ -25,9 +30,25 @@ abbrev pub find : List ℕ → Numbers → Option ℤ
 find name [] = None
 find name (e ∷ es) = if bytes_eq name e.0 then Some e.1 else find name es
 
--- the number of a setting, where it names a control and its text is a number
+-- the type of each control
+abbrev pub control_type : Ty
+control_type = ty.Num I32
+
+abbrev pub number_at : Value-F Value → Option ℤ
+number_at (Value-F.Num x) = Some x.n
+number_at _ = None
+
+abbrev pub number_read : Result Value (List Token) → Option ℤ
+number_read (Ok v) = number_at (out-Value v)
+number_read (Err rest) = None
+
+-- the number that a text spells: all of it is a value of the type
+abbrev pub spelled_number : List ℕ → Option ℤ
+spelled_number text = number_read (all_read (read (values control_type) (tokens text)))
+
+-- the number of a setting, where it names a control and its text spells a number
 abbrev pub number_for : (controls : List (List ℕ)) → Setting → Option ℤ
-number_for controls s = if list_any (bytes_eq s.name) controls then number_of s.text else None
+number_for controls s = if list_any (bytes_eq s.name) controls then spelled_number s.text else None
 
 -- what the settings give, or the place of the first wrong one
 pub data Given : Type 0 where

@@ -1,8 +1,9 @@
 //! The top call.
 
-ghost use Rattle.std.specs.Prelude.{◌≡◌, ◌≤◌, map, None, IfOk};
+ghost use Rattle.std.specs.Prelude.{◌≡◌, ◌≤◌, true, map, None, IfOk};
 ghost use Rattle.std.specs.String.{string_bytes};
-ghost use Rattle.grun.specs.Call.{Delivers, Ending, Found};
+ghost use Rattle.std.specs.Io.KnownBytes.{IsAtEnd};
+ghost use Rattle.grun.specs.Call.{Delivers, Ending, Found, has_read};
 ghost use Rattle.grun.specs.Answer.{reply};
 
 use crate::answer::{Answer, answer_line, refused};
@@ -57,6 +58,7 @@ pub fn grun_call<S: Source, K: Sink>(
     ensures kept { K.made_with sink.new ≡ K.made_with sink.old }
     ensures ending { Ending (map string_bytes words.now.items) (S.left source.old) (K.held sink.old) (K.held sink.new)
         (S.faults source.old) (S.faults source.new) (K.faults sink.old) (K.faults sink.new) result.trace result.status }
+    ensures read_to_end { has_read result.status ≡ true → IsAtEnd (S.left source.new) }
 {
     let answer = match answer(alloc, words, source) {
         Ok(answer) => answer,
@@ -76,6 +78,7 @@ fn answer<S: Source>(
 ) -> Result<Answer, AllocError>
     ensures later { S.faults source.old ≤ S.faults source.new }
     ensures answer { IfOk result (λ answer. Found (map string_bytes words.now.items) (S.left source.old) (S.faults source.old) (S.faults source.new) answer.trace (reply answer.status answer.text)) }
+    ensures read_to_end { IfOk result (λ answer. has_read answer.status ≡ true → IsAtEnd (S.left source.new)) }
 {
     let (main, settings) = match line(alloc, words) {
         Ok(Line::Run { main, settings }) => (main, settings),

@@ -9,6 +9,8 @@ mod names;
 mod pieces;
 mod reading;
 mod settings;
+#[cfg(test)]
+mod tests;
 mod texts;
 
 use call::grun_call;

@@ -1,19 +1,20 @@
 //! What settings say of controls.
 
-ghost use Rattle.std.specs.Prelude.{◌≡◌, [], ◌∷◌, ◌++◌, map, IfOk, OnOk};
+ghost use Rattle.std.specs.Prelude.{◌≡◌, true, [], ◌∷◌, ◌++◌, map, IfOk, OnOk};
 ghost use Rattle.std.specs.List.{list_any};
 ghost use Rattle.std.specs.Option.{option_copied};
 ghost use Rattle.std.specs.Prelude.{bytes_eq, None};
-ghost use Rattle.grun.specs.Pieces.{number_of};
-ghost use Rattle.grun.specs.Settings.{control_names, number_for, given_from, control_values, i32_value, or_zero, find};
+ghost use Rattle.g_fire.specs.Plan.{is_i32};
+ghost use Rattle.g_values.specs.declared.value.Value.{out-Value};
+ghost use Rattle.grun.specs.Settings.{control_names, number_at, spelled_number, number_for, given_from, control_values, i32_value, or_zero, find};
 ghost use Rattle.grun.specs.Views.{texts_of, entries_of};
 ghost use Rattle.grun.specs.GivenViews.{given_seen};
 
 use crate::names::set_of;
-use crate::pieces::number;
 use g_diagram::PanelItem;
 use g_line::Setting;
-use g_types::Rep;
+use g_types::{Rep, Ty};
+use g_valtext::{ValueRefused, read_value};
 use g_values::{Num, Value};
 use indexmap::{IndexMap, IndexSet};
 use std::alloc::{AllocError, Global};
@@ -46,6 +47,27 @@ pub(crate) enum Given<'a> {
     Right(IndexMap<&'a [u8], i32>),
 }
 
+/// The number that a setting's text spells, as a value of the type of a control.
+fn spelled_number(alloc: Global, text: &[u8]) -> Result<Option<i32>, AllocError>
+    ensures { IfOk result (λ n. n ≡ spelled_number text.now) }
+{
+    match read_value(alloc, &Ty::Num(Rep::I32), text) {
+        Ok(value) => Ok(number_in(&value)),
+        Err(ValueRefused::NotOfType(_)) => Ok(None),
+        Err(ValueRefused::Memory(error)) => Err(error),
+    }
+}
+
+fn number_in(value: &Value) -> Option<i32>
+    requires { is_i32 value.now ≡ true }
+    ensures { result ≡ number_at (out-Value value.now) }
+{
+    match value {
+        Value::Num(number) => Some(number.n as i32),
+        _ => None,
+    }
+}
+
 fn number_for(
     alloc: Global,
     controls: &IndexSet<&[u8]>,
@@ -54,7 +76,7 @@ fn number_for(
     ensures { IfOk result (λ n. n ≡ number_for (texts_of controls.now.keys) setting.now) }
 {
     if controls.contains(&setting.name.as_slice()) {
-        number(alloc, setting.text.as_slice())
+        spelled_number(alloc, setting.text.as_slice())
     } else {
         Ok(None)
     }

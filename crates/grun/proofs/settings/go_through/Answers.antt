@@ -7,7 +7,7 @@ use Rattle.grun.specs.Views.{texts_of, entries_of}
 use Rattle.std.specs.Int.{w32}
 use Rattle.std.proofs.lemmas.Int.{to_z-of_z}
 use Rattle.grun.proofs.Fixed.{passed}
-use Rattle.grun.proofs.Numbers.{number_of-text}
+use Rattle.grun.proofs.Spelled.{spelled_fits}
 use Rattle.grun.proofs.Finding.{find-lookup, step_none, step_again, step_more, some_of, none_of, entries-more, number_known}
 use Rattle.grun.proofs.settings.go_through.Goals as goal
 
@@ -47,7 +47,7 @@ loop-place-preserved c =
     let none = none_of c.in_ok-insert.field-0 (sym c.is_some.ensures ∙ c.if-is_some.false) in
     let get = sym c.in_ok-insert.ensures.old ∙ none in
     let found : find s.name es ≡ None = ap (λ name. find name es) (sym c.as_slice.ensures) ∙ sym (find-lookup c.as_slice.result.now c.loop-place.numbers.entries) ∙ get in
-    let fits = (number_of-text s.text c.in-Some.number (passed _ _ _ number).1).1 in
+    let fits = spelled_fits s.text c.in-Some.number (passed _ _ _ number).1 in
     let entries = c.in_ok-insert.ensures.entries ∙ insert_entry-new _ c.loop-place.numbers c.as_slice.result _ get ∙ ap (λ n. c.loop-place.numbers.entries ++ (c.as_slice.result, n) ∷ []) (to_z-of_z w32 c.in-Some.number fits) in
     let more = ap entries_of entries ∙ entries-more c.loop-place.numbers.entries (c.as_slice.result, c.in-Some.number) ∙ ap (λ name. es ++ (name, c.in-Some.number) ∷ []) c.as_slice.ensures in
     ap (λ es. given_from controls es (k + 1) rest) more ∙ sym (step_more controls es k s rest c.in-Some.number number found) ∙ sym (ap (given_from controls es k) here) ∙ c.loop-place.invariant

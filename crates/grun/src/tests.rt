@@ -1,0 +1,90 @@
+//! Whole calls, from words and bytes to the text that is written.
+
+use crate::call::grun_call;
+use g_io::{MemorySink, MemorySource};
+use g_types::{Bytes, CallList};
+use std::alloc::AllocError;
+use std::test::Fail;
+
+const ADD: &str =
+    "glisting 1\nvi Main nonreentrant same\n  control a i32 -> a\n  control b i32 -> b\n  indicator r i32 <- s\n  add a b -> s\nend\n";
+
+const CUT: &str =
+    "glisting 1\nvi Main nonreentrant same\n  control a i32 -> a\n  control b i32 -> b\n  indicator r i32 <- s\n  add a b -> s\nend";
+
+const BROKEN: &str =
+    "glisting 1\nvi Main nonreentrant same\n  control a i32 -> a\n  indicator r i32 <- w\n  indicator s i32 <- t\n  add a w -> w\nend\n";
+
+const ENDS: &str =
+    "glisting 1\nvi Main nonreentrant same\n  control a i32 -> a\n  indicator r i32 <- p\n  indicator s i32 <- d\n  const i32 -2147483648 -> k\n  sub k a -> d\n  mul a a -> p\nend\n";
+
+fn words(rt: &HostRuntime, line: &str) -> Result<Vec<String>, AllocError> {
+    let mut words = Vec::new(rt.alloc());
+    for word in line.split(' ') {
+        words.push(String::from_str(rt.alloc(), word)?)?;
+    }
+    Ok(words)
+}
+
+fn calls(rt: &HostRuntime, fails: &[u64]) -> Result<CallList, AllocError> {
+    CallList::from_slice(rt.alloc(), fails)
+}
+
+/// Makes the call with a source that fails at these calls, and a sink that fails at those; compares
+/// the status, what was written, and whether there is a trace.
+fn answers(
+    rt: &HostRuntime,
+    call: (&str, &str),
+    fails: (&[u64], &[u64]),
+    wanted: (u8, &str),
+) -> Result<bool, AllocError> {
+    let words = words(rt, call.0)?;
+    let bytes = Bytes::from_slice(rt.alloc(), call.1.as_bytes())?;
+    let mut source = MemorySource::new(bytes, 64, calls(rt, fails.0)?);
+    let room = Bytes::from_vec(vec![in rt.alloc(); b'.'; 64]?);
+    let mut sink = MemorySink::new(16, calls(rt, fails.1)?, room);
+    let outcome = grun_call(rt.alloc(), &words, &mut source, &mut sink);
+    Ok(outcome.status == wanted.0 && sink.written() == wanted.1.as_bytes())
+}
+
+#[test]
+fn answers_each_call(rt: HostRuntime) -> Result<(), Fail> {
+    let no: &[u64] = &[];
+    let cases = [
+        (("run Main a=2 b=3", ADD), (0, "r = 5\n")),
+        (("run Main", ADD), (0, "r = 0\n")),
+        (("run Main a=2147483647 b=1", ADD), (0, "r = -2147483648\n")),
+        (("run Main a=1", ENDS), (0, "r = 1\ns = 2147483647\n")),
+        (("run Main a= +007", ADD), (1, "usage at word 4\n")),
+        (("run Main b=007", ADD), (0, "r = 7\n")),
+        (("run Main a=1 b", ADD), (1, "usage at word 4\n")),
+        (("fly", ADD), (1, "usage at word 1\n")),
+        (("run", ADD), (1, "usage at word 2\n")),
+        (("run Main a=1", CUT), (2, "syntax\n")),
+        (("run Other a=1", ADD), (2, "syntax\n")),
+        (("run Main", ""), (2, "syntax\n")),
+        (
+            ("run Main c=1", BROKEN),
+            (3, "Main:3.1 rule 1\nMain:4.0 rule 6\n"),
+        ),
+        (("run Main c=1", ADD), (4, "control at word 3\n")),
+        (("run Main a=1 a=1", ADD), (4, "control at word 4\n")),
+        (("run Main a=2147483648", ADD), (4, "control at word 3\n")),
+    ];
+    for (call, wanted) in cases {
+        assert_eq!(rt; answers(&rt, call, (no, no), wanted)?, true);
+    }
+    Ok(())
+}
+
+#[test]
+fn tells_faults(rt: HostRuntime) -> Result<(), Fail> {
+    let no: &[u64] = &[];
+    let call = ("run Main a=1 c=1", ADD);
+    assert_eq!(rt; answers(&rt, call, (&[1], no), (7, "read fault\n"))?, true);
+    assert_eq!(rt;
+        answers(&rt, call, (no, &[1]), (8, "control at word "))?,
+        true
+    );
+    Ok(())
+}
