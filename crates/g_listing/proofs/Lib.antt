@@ -1,0 +1,4 @@
+pub mod Gives
+pub mod Lacks
+pub mod Levels
+pub mod Refusals

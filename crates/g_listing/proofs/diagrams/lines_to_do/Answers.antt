@@ -1,0 +1,11 @@
+use Rattle.std.proofs.Common.{◌≡◌, ℕ, List, subst, rules}
+use Rattle.std.specs.Prelude.{codes}
+use Rattle.g_grammar.specs.Grammar.{read}
+use Rattle.g_grammar.specs.Reads.{Gives}
+use Rattle.g_syntax.specs.Borders.{lines_to}
+use Rattle.g_listing.proofs.diagrams.lines_to_do.Goals as goal
+
+pub returns : goal.returns
+returns c =
+    let e : c.as_slice.result.now ≡ codes "do" = search rules in
+    subst (λ (w : List ℕ). Gives c.lines.result (read (lines_to c.args.border w) c.args.tokens.now)) e c.lines.ensures
