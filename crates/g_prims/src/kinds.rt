@@ -5,7 +5,7 @@ ghost use Rattle.std.specs.List.{list_any};
 ghost use Rattle.g_operations.specs.Kinds as spec;
 ghost use Rattle.g_types.specs.Same.{same_type};
 ghost use Rattle.g_types.specs.Ty as types;
-ghost use Rattle.g_values.specs.Proper as values;
+ghost use Rattle.g_values.specs.Spelled as values;
 
 use g_lists::Boxed;
 use g_types::{Ty, same, wider};
