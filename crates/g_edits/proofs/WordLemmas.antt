@@ -19,7 +19,7 @@ use Rattle.g_edits.specs.Words.{on_numbers, on_words, result_word}
 pub number-canonical : (r : Rep) (w : ℕ) → number r (canonical r w) ≡ wrap r (pos w)
 number-canonical r w = ap (number r) (sym (word-number r w)) ∙ number-word r (number r w) ∙ wrap-wrap r (pos w)
 
-word-sub : (a b : ℤ) → word (a -ℤ b) ≡ (word a + (2 ^ 64 - word b)) % 2 ^ 64
+pub word-sub : (a b : ℤ) → word (a -ℤ b) ≡ (word a + (2 ^ 64 - word b)) % 2 ^ 64
 word-sub a b =
     let p = lifted a in
     let q = lifted b in
@@ -55,7 +55,7 @@ two_negatives a b =
     let e : suc a * (2 ^ 64 - 1) * (suc b * (2 ^ 64 - 1)) ≡ n + k * 2 ^ 64 = omega arith in
     ap (λ m. m % 2 ^ 64) e ∙ omega arith
 
-word-mul : (a b : ℤ) → word (a *ℤ b) ≡ word a * word b % 2 ^ 64
+pub word-mul : (a b : ℤ) → word (a *ℤ b) ≡ word a * word b % 2 ^ 64
 word-mul (pos a) (pos b) = word-natural (a * b) ∙ sym (times_words (pos a) (pos b) a b (word-natural a) (word-natural b))
 word-mul (pos a) (negsuc b) =
     let e : a * suc b * (2 ^ 64 - 1) ≡ a * (suc b * (2 ^ 64 - 1)) = omega arith in
@@ -66,7 +66,7 @@ word-mul (negsuc a) (pos b) =
 word-mul (negsuc a) (negsuc b) =
     word-natural (suc a * suc b) ∙ sym (two_negatives a b) ∙ sym (times_words (negsuc a) (negsuc b) (suc a * (2 ^ 64 - 1)) (suc b * (2 ^ 64 - 1)) (word-negsuc a) (word-negsuc b))
 
-word-of_result : (o : Operator) (x y : ℤ) → word (pos (on_words o (word x) (word y))) ≡ word (on_numbers o x y)
+pub word-of_result : (o : Operator) (x y : ℤ) → word (pos (on_words o (word x) (word y))) ≡ word (on_numbers o x y)
 word-of_result Plus x y = ap (λ w. word (pos w)) (sym (word-add x y)) ∙ word-pos (word (x +ℤ y)) (word-below (x +ℤ y))
 word-of_result Minus x y = ap (λ w. word (pos w)) (sym (word-sub x y)) ∙ word-pos (word (x -ℤ y)) (word-below (x -ℤ y))
 word-of_result Times x y = ap (λ w. word (pos w)) (sym (word-mul x y)) ∙ word-pos (word (x *ℤ y)) (word-below (x *ℤ y))
