@@ -1,0 +1,6 @@
+pub mod Equalities
+pub mod FoldLemmas
+pub mod KeptLemmas
+pub mod QuotientLemmas
+pub mod ReadLemmas
+pub mod ZipLemmas
