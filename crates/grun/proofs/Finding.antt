@@ -1,5 +1,5 @@
 -- Numbers by names, as a map keeps them and as a list tells them.
-use Rattle.std.proofs.Common.{◌≡◌, ◌+◌, ◌<◌, arith, ℕ, ℤ, pos, negsuc, true, false, cond, List, [], ◌∷◌, ◌++◌, map, Option, Some, None, refl, ap, ◌∙◌}
+use Rattle.std.proofs.Common.{◌≡◌, ◌+◌, ◌<◌, arith, ℕ, ℤ, pos, negsuc, Bool, true, false, cond, List, [], ◌∷◌, ◌++◌, map, Option, Some, None, refl, ap, ◌∙◌}
 use Rattle.std.specs.Prelude.{bytes_eq, is_some, FitsSigned}
 use Rattle.std.specs.Int.{w32}
 use lib.Signed.{mag}
@@ -32,6 +32,11 @@ pub step_more : (controls : List (List ℕ)) (before : List (List ℕ × ℤ)) (
 step_more controls before k s ss n e f =
     ap (λ (r : Option ℤ). take_setting r (find s.name before) (λ n. given_from controls (before ++ (s.name, n) ∷ []) (k + 1) ss) k) e
     ∙ ap (λ (r : Option ℤ). take_setting (Some n) r (λ n. given_from controls (before ++ (s.name, n) ∷ []) (k + 1) ss) k) f
+
+-- a test that was passed
+pub passed : {A : Type 0} (b : Bool) (x : Option A) (y : A) → cond b x None ≡ Some y → (b ≡ true) × (x ≡ Some y)
+passed true x y e = (refl, e)
+passed false x y e = absurd cc
 
 pub some_of : (r : Option ℤ) → is_some r ≡ true → (m : ℤ) × (r ≡ Some m)
 some_of None e = absurd cc

@@ -1,14 +1,5 @@
-pub mod Fixed
-pub mod Numbers
-pub mod LinePieces
-pub mod LineLaws
-pub mod Many
-pub mod Shapes
-pub mod ReadLaws
-pub mod ListingLaws
 pub mod Distinct
 pub mod Finding
 pub mod Spelled
 pub mod Settled
 pub mod WellWired
-pub mod Examples

@@ -1,5 +1,5 @@
 -- What a listing and its settings have to be for a run.
-use Rattle.std.proofs.Common.{cond, ◌≡◌, ℕ, ℤ, ◌+◌, ◌<◌, suc, Option, Some, None, true, not, List, [], ◌∷◌, ◌++◌, map, length, refl, sym, ap, ◌∙◌, arith}
+use Rattle.std.proofs.Common.{cond, ◌≡◌, ◌&&◌, ℕ, ℤ, ◌+◌, ◌<◌, suc, Option, Some, None, true, not, List, [], ◌∷◌, ◌++◌, map, length, refl, ap, ◌∙◌, arith}
 use Rattle.std.specs.List.{All, list_all, count_by}
 use Rattle.std.proofs.lemmas.Bool.{and_parts}
 use Rattle.std.proofs.lemmas.List.{length-map}
@@ -13,40 +13,67 @@ use Rattle.g_values.proofs.ProperLemmas.{proper_num}
 use Rattle.g_types.specs.declared.rep.Rep.TheVariants.{I32}
 use Rattle.g_diagram.specs.declared.panel.PanelItem.{PanelItem}
 use Rattle.g_diagram.specs.declared.panel.PanelItem.TheVariants.{Control, Indicator}
-use Rattle.g_diagram.specs.declared.node.Node.{Node}
+use Rattle.g_diagram.specs.declared.hierarchy.Clones.{Clones}
+use Rattle.g_diagram.specs.declared.hierarchy.Clones.TheVariants as clones
+use Rattle.g_diagram.specs.declared.hierarchy.Clones.TheVariants.{NonReentrant}
+use Rattle.g_diagram.specs.declared.hierarchy.System.{System}
+use Rattle.g_diagram.specs.declared.hierarchy.System.TheVariants as system
+use Rattle.g_diagram.specs.declared.hierarchy.System.TheVariants.{Same}
+use Rattle.g_diagram.specs.declared.hierarchy.Hierarchy.{Hierarchy}
 use Rattle.g_diagram.specs.declared.hierarchy.Vi.{Vi}
 use Rattle.g_diagram.specs.Form.{is_plain_item, is_plain_node, is_indicator, IsFormVi, IsForm}
-use Rattle.g_types.specs.Names.{is_word}
 use Rattle.g_fire.specs.Plan.{is_i32, AreControls}
-use Rattle.grun.specs.Listing.{item_names, node_names, is_item_line, is_node_line, hierarchy_of, IsListing}
+use Rattle.grun.specs.Listing.{hierarchy_of, is_non_reentrant, is_same, is_plain_vi, IsFormOf, UsesNames}
 use Rattle.g_line.specs.declared.forms.Setting.{Setting}
-use Rattle.grun.proofs.LinePieces.{some_is}
-use Rattle.grun.proofs.ListingLaws.{vi_again}
 use Rattle.grun.specs.Settings.{Numbers, Given, Wrong, find, number_for, take_setting, given_from, or_zero, i32_value, control_names}
 
-plain_items : (items : List PanelItem) → list_all is_item_line items ≡ true → list_all is_plain_item items ≡ true
-plain_items [] e = refl
-plain_items (i ∷ is) e =
-    let p = and_parts (is_item_line i) (list_all is_item_line is) e in
-    rw ((and_parts (is_plain_item i) (list_all is_word (item_names i)) p.0).0, plain_items is p.1) refl
+non_reentrant : (c : Clones) → is_non_reentrant c ≡ true → c ≡ NonReentrant
+non_reentrant NonReentrant e = refl
+non_reentrant clones.Preallocated e = absurd cc
+non_reentrant (clones.Pool n) e = absurd cc
 
-plain_nodes : (nodes : List Node) → list_all is_node_line nodes ≡ true → list_all is_plain_node nodes ≡ true
-plain_nodes [] e = refl
-plain_nodes (n ∷ ns) e =
-    let p = and_parts (is_node_line n) (list_all is_node_line ns) e in
-    rw ((and_parts (is_plain_node n) (list_all is_word (node_names n)) p.0).0, plain_nodes ns p.1) refl
+same_system : (s : System) → is_same s ≡ true → s ≡ Same
+same_system Same e = refl
+same_system system.Ui e = absurd cc
+same_system system.Standard e = absurd cc
+same_system system.Instrument e = absurd cc
+same_system system.Daq e = absurd cc
+same_system system.Other1 e = absurd cc
+same_system system.Other2 e = absurd cc
 
-pub form_of : (bytes : List ℕ) (vi : Vi) → IsListing bytes vi → IsFormVi vi
-form_of bytes vi is = record {
-  clones = is.spells.lines.clones;
-  system = is.spells.lines.system;
-  panel = plain_items vi.panel is.spells.lines.panel;
-  nodes = plain_nodes vi.top.nodes is.spells.lines.nodes;
-  panel_names_differ = is.uses.panel_names_differ;
-  source_names_differ = is.uses.source_names_differ;
-  used = is.uses.used;
-  few = is.uses.few;
+pub form_by : (vi : Vi) → is_plain_vi vi ≡ true → UsesNames vi → IsFormVi vi
+form_by vi plain uses =
+    let lines = list_all is_plain_item vi.panel && list_all is_plain_node vi.top.nodes in
+    let p = and_parts (is_non_reentrant vi.clones) (is_same vi.system && lines) plain in
+    let q = and_parts (is_same vi.system) lines p.1 in
+    let r = and_parts (list_all is_plain_item vi.panel) (list_all is_plain_node vi.top.nodes) q.1 in
+    record {
+      clones = non_reentrant vi.clones p.0;
+      system = same_system vi.system q.0;
+      panel = r.0;
+      nodes = r.1;
+      panel_names_differ = uses.panel_names_differ;
+      source_names_differ = uses.source_names_differ;
+      used = uses.used;
+      few = uses.few;
+    }
+
+pub form_plain : (vi : Vi) → IsFormVi vi → is_plain_vi vi ≡ true
+form_plain vi form = rw (form.clones, form.system, form.panel, form.nodes) refl
+
+pub form_uses : (vi : Vi) → IsFormVi vi → UsesNames vi
+form_uses vi form = record {
+  few = form.few;
+  panel_names_differ = form.panel_names_differ;
+  source_names_differ = form.source_names_differ;
+  used = form.used;
 }
+
+pub hierarchy_is : (h : Hierarchy) (vi : Vi) → h.vis ≡ vi ∷ [] → h ≡ hierarchy_of vi
+hierarchy_is h vi one = ap (λ (vis : List Vi). record { vis = vis }) one
+
+pub form_in : (main : List ℕ) (h : Hierarchy) → IsFormOf main h → IsForm h
+form_in main h is = record { vi = is.vi; one = is.one; form = is.form }
 
 pub form_alone : (vi : Vi) → IsFormVi vi → IsForm (hierarchy_of vi)
 form_alone vi form = record { vi = vi; one = refl; form = form }
@@ -92,7 +119,3 @@ wrong_within controls before k m [] e = absurd cc
 wrong_within controls before k m (s ∷ ss) e =
     step_within (λ n. given_from controls (before ++ (s.name, n) ∷ []) (k + 1) ss) (number_for controls s) (find s.name before) k m (length ss)
     (λ n. wrong_within controls (before ++ (s.name, n) ∷ []) (k + 1) m ss) e
-
--- bytes are the listing of one VI at most
-pub only_listing : (bytes : List ℕ) (a b : Vi) → IsListing bytes a → IsListing bytes b → a ≡ b
-only_listing bytes a b x y = some_is a b (sym (vi_again bytes a x.spells) ∙ vi_again bytes b y.spells)

@@ -5,6 +5,10 @@ use Rattle.g_values.specs.declared.value.Value.{Value}
 use Rattle.g_diagram.specs.declared.place.Break.{Break}
 use Rattle.g_diagram.specs.declared.hierarchy.Vi.{Vi}
 use Rattle.g_diagram.specs.declared.hierarchy.Hierarchy.{Hierarchy}
+use Rattle.g_tokens.specs.declared.token.Spot.{Spot}
+use Rattle.g_syntax.specs.Listing.{IsListing}
+use Rattle.g_listing.specs.Refusal.{IsRefusal}
+use Rattle.g_listing.specs.declared.listing.ListingRefused.TheVariants.{Syntax}
 use Rattle.g_line.specs.declared.forms.Setting.{Setting}
 use Rattle.g_line.specs.declared.forms.Line.{Line}
 use Rattle.g_line.specs.declared.forms.Line.TheVariants.{Run}
@@ -17,8 +21,8 @@ use Rattle.g_fire.specs.Program.{program}
 use Rattle.g_fire.specs.declared.state.End.TheVariants.{Complete}
 use Rattle.g_fire.specs.Run.{after, IsAtRest, end_of}
 use Rattle.g_fire.specs.Print.{print}
-use Rattle.grun.specs.Texts.{line_of, breaks_text}
-use Rattle.grun.specs.Listing.{hierarchy_of, IsListing}
+use Rattle.grun.specs.Texts.{line_of, breaks_text, spot_text}
+use Rattle.grun.specs.Listing.{hierarchy_of, IsFormOf}
 use Rattle.grun.specs.Settings.{Numbers, Wrong, Right, given, control_values}
 
 pub record Reply : Type 0 where
@@ -33,12 +37,6 @@ abbrev pub LIMIT : ℕ
 LIMIT = 16_777_216
 
 -- ---- the answer
-
--- the bytes, short enough, are the listing of a VI of this name
-pub record IsFor (main : List ℕ) (bytes : List ℕ) (vi : Vi) : Type 0 where
-  pub name : vi.name ≡ main
-  pub short : length bytes ≤ LIMIT
-  pub listing : IsListing bytes vi
 
 -- a run with these values of the controls: its trace is allowed and leads to a state in which no node can fire and each was fired; the reply
 -- shows that state
@@ -64,7 +62,10 @@ pub data IsAnswer (words : List (List ℕ)) (bytes : List ℕ) : Option (List Fi
   usage : (k : ℕ) → IsFirstWrong words k → IsAnswer words bytes None (reply 1 (line_of (codes "usage at word " ++ decimal k)))
   -- more bytes than an input may have
   too_long : (line : Line) → HasLine words line → LIMIT < length bytes → IsAnswer words bytes None (reply 10 (line_of (codes "too long")))
-  -- the bytes are no listing of the VI that the words name
-  syntax : (main : List ℕ) (settings : List Setting) → HasLine words (Run main settings) → length bytes ≤ LIMIT → ((vi : Vi) → IsFor main bytes vi → ⊥) → IsAnswer words bytes None (reply 2 (line_of (codes "syntax")))
-  -- they are
-  listed : (main : List ℕ) (settings : List Setting) (vi : Vi) (trace : Option (List Firing)) (r : Reply) → HasLine words (Run main settings) → IsFor main bytes vi → IsRunAnswer vi settings trace r → IsAnswer words bytes trace r
+  -- the bytes are no listing: the first token that no listing has after those before it
+  syntax : (line : Line) (spot : Spot) → HasLine words line → length bytes ≤ LIMIT → IsRefusal bytes (Syntax spot) → IsAnswer words bytes None (reply 2 (line_of (codes "syntax at " ++ spot_text spot)))
+  -- they are one, but of another form than that which runs
+  not_built : (main : List ℕ) (settings : List Setting) (h : Hierarchy) → HasLine words (Run main settings) → length bytes ≤ LIMIT → IsListing bytes h → (IsFormOf main h → ⊥) → IsAnswer words bytes None (reply 12 (line_of (codes "not built")))
+  -- they are one of the form
+  listed : (main : List ℕ) (settings : List Setting) (vi : Vi) (trace : Option (List Firing)) (r : Reply) → HasLine words (Run main settings) → length bytes ≤ LIMIT → IsListing bytes (hierarchy_of vi) → IsFormOf main (hierarchy_of vi)
+      → IsRunAnswer vi settings trace r → IsAnswer words bytes trace r

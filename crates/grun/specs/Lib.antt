@@ -1,5 +1,3 @@
-pub mod Pieces
-pub mod Reading
 pub mod Listing
 pub mod Views
 pub mod Settings

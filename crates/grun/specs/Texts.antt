@@ -1,6 +1,7 @@
 -- The texts of refusals.
 use Rattle.std.specs.Prelude.{ℕ, List, [], ◌∷◌, ◌++◌, slice_get, Option, Some, None, codes}
 use Rattle.std.specs.Fmt.{decimal}
+use Rattle.g_tokens.specs.declared.token.Spot.{Spot}
 use Rattle.g_diagram.specs.declared.place.Break.{Break}
 use Rattle.g_diagram.specs.declared.place.Place.{Place}
 use Rattle.g_diagram.specs.declared.hierarchy.Vi.{Vi}
@@ -8,6 +9,10 @@ use Rattle.g_diagram.specs.declared.hierarchy.Vi.{Vi}
 -- a line of the answer
 abbrev pub line_of : List ℕ → List ℕ
 line_of text = text ++ (10 ∷ [])
+
+-- `L:C`
+abbrev pub spot_text : Spot → List ℕ
+spot_text s = decimal s.line ++ (58 ∷ decimal s.column)
 
 -- ---- what is written of breaks: `VI:L.O rule R` for each
 

@@ -1,7 +1,8 @@
 //! The answer to a line and a listing.
 
-ghost use Rattle.std.specs.Prelude.{◌≡◌, ◌<◌, ◌≤◌, ◌+◌, ◌∷◌, [], List as Row, ℕ, Some, None, length, IfOk, bytes_eq};
-ghost use Rattle.g_diagram.specs.Form.{IsForm, IsFormVi};
+ghost use Rattle.std.specs.Prelude.{◌≡◌, ◌<◌, ◌≤◌, ◌+◌, ◌∷◌, [], List as Row, ℕ, Some, None, length, IfOk};
+ghost use Rattle.g_diagram.specs.Form.{IsForm};
+ghost use Rattle.g_diagram.specs.declared.hierarchy.Vi.{Vi as Instrument};
 ghost use Rattle.g_line.specs.declared.forms.Line.TheVariants.{Run};
 ghost use Rattle.g_line.specs.Forms.{HasLine};
 ghost use Rattle.g_fire.specs.declared.firing.Firing.{Firing};
@@ -10,12 +11,13 @@ ghost use Rattle.g_wires.specs.Breaks.{IsWiring};
 ghost use Rattle.grun.specs.Listing.{hierarchy_of};
 ghost use Rattle.grun.specs.Answer.{reply, Runs, IsRunAnswer, IsAnswer, LIMIT as MOST};
 
-use crate::form::listing;
+use crate::form::is_form;
 use crate::settings::{Given, control_names, go_through, values};
-use crate::texts::{breaks_text, fixed, numbered};
+use crate::texts::{breaks_text, fixed, numbered, placed};
 use g_diagram::{Hierarchy, Vi};
 use g_fire::{Trace, run_all, state_text};
 use g_line::Setting;
+use g_listing::{ListingRefused, read_listing};
 use g_lists::List;
 use g_types::{Bytes, Name};
 use g_values::ValueList;
@@ -43,16 +45,6 @@ fn run(alloc: Global, h: &Hierarchy, controls: ValueList) -> Result<Answer, Allo
         status: 0,
         text,
         trace: Some(ran.trace),
-    })
-}
-
-fn hierarchy(alloc: Global, vi: Vi) -> Result<Hierarchy, AllocError>
-    ensures { IfOk result (λ h. h ≡ hierarchy_of vi) }
-{
-    let mut vis = Vec::new(alloc);
-    vis.push(vi)?;
-    Ok(Hierarchy {
-        vis: List::from_vec(vis),
     })
 }
 
@@ -101,29 +93,22 @@ fn answer_settings(
     }
 }
 
-/// The answer for a VI of the form.
-fn answer_vi(alloc: Global, vi: Vi, settings: &[Setting]) -> Result<Answer, AllocError>
-    requires { IsFormVi vi }
-    ensures { IfOk result (λ answer. IsRunAnswer vi settings.now answer.trace (reply answer.status answer.text)) }
+/// The answer for a hierarchy of the form, which is one VI.
+fn answer_form(alloc: Global, h: &Hierarchy, settings: &[Setting]) -> Result<Answer, AllocError>
+    requires { IsForm h.now }
+    ensures { IfOk result (λ answer. (vi : Instrument) × (h.now ≡ hierarchy_of vi) × IsRunAnswer vi settings.now answer.trace (reply answer.status answer.text)) }
 {
-    let h = hierarchy(alloc, vi)?;
     let vi = &h.vis.as_slice()[0];
-    let breaks = wiring(alloc, &h, &vi.name)?;
+    let breaks = wiring(alloc, h, &vi.name)?;
     if breaks.is_empty() {
-        return answer_settings(alloc, &h, vi, settings);
+        return answer_settings(alloc, h, vi, settings);
     }
     let text = breaks_text(alloc, h.vis.as_slice(), breaks.as_slice())?;
     Ok(refused(3, text))
 }
 
-fn is_named(vi: &Vi, main: &Name) -> bool
-    ensures { result ≡ bytes_eq vi.now.name main.now }
-{
-    vi.name.as_slice() == main.as_slice()
-}
-
 /// The answer to a run of a listing.
-pub(crate) fn answer_line(
+pub(crate) fn answer_run(
     alloc: Global,
     main: &Name,
     settings: &[Setting],
@@ -132,11 +117,15 @@ pub(crate) fn answer_line(
     requires { length bytes.now ≤ MOST }
     ensures { IfOk result (λ answer. (words : Row (Row ℕ)) → HasLine words (Run main.now settings.now) → IsAnswer words bytes.now answer.trace (reply answer.status answer.text)) }
 {
-    let Some(vi) = listing(alloc, bytes)? else {
-        return Ok(refused(2, fixed(alloc, b"syntax")?));
+    let h = match read_listing(alloc, bytes) {
+        Ok(h) => h,
+        Err(ListingRefused::Syntax(spot)) => {
+            return Ok(refused(2, placed(alloc, b"syntax at ", spot)?));
+        }
+        Err(ListingRefused::Memory(error)) => return Err(error),
     };
-    if !is_named(&vi, main) {
-        return Ok(refused(2, fixed(alloc, b"syntax")?));
+    if !is_form(alloc, &h, main)? {
+        return Ok(refused(12, fixed(alloc, b"not built")?));
     }
-    answer_vi(alloc, vi, settings)
+    answer_form(alloc, &h, settings)
 }

@@ -6,7 +6,7 @@ ghost use Rattle.std.specs.Io.KnownBytes.{IsAtEnd};
 ghost use Rattle.grun.specs.Call.{Delivers, Ending, Found, has_read};
 ghost use Rattle.grun.specs.Answer.{reply};
 
-use crate::answer::{Answer, answer_line, refused};
+use crate::answer::{Answer, answer_run, refused};
 use crate::texts::{fixed, numbered};
 use g_fire::Trace;
 use g_io::{ReadRefused, Sink, Source, read_all, write_all_of};
@@ -88,7 +88,7 @@ fn answer<S: Source>(
         Err(LineRefused::Memory(e)) => return Err(e),
     };
     match read_all(alloc, source, LIMIT) {
-        Ok(bytes) => answer_line(alloc, &main, settings.as_slice(), bytes.as_slice()),
+        Ok(bytes) => answer_run(alloc, &main, settings.as_slice(), bytes.as_slice()),
         Err(ReadRefused::Fault) => Ok(refused(7, fixed(alloc, b"read fault")?)),
         Err(ReadRefused::TooLong) => Ok(refused(10, fixed(alloc, b"too long")?)),
         Err(ReadRefused::Memory(e)) => Err(e),

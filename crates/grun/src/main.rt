@@ -4,10 +4,7 @@
 mod answer;
 mod call;
 mod form;
-mod forms;
 mod names;
-mod pieces;
-mod reading;
 mod settings;
 #[cfg(test)]
 mod tests;

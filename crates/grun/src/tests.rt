@@ -9,8 +9,12 @@ use std::test::Fail;
 const ADD: &str =
     "glisting 1\nvi Main nonreentrant same\n  control a i32 -> a\n  control b i32 -> b\n  indicator r i32 <- s\n  add a b -> s\nend\n";
 
-const CUT: &str =
-    "glisting 1\nvi Main nonreentrant same\n  control a i32 -> a\n  control b i32 -> b\n  indicator r i32 <- s\n  add a b -> s\nend";
+const SPELLED: &str =
+    "glisting 01 # the first version\n\nvi Main\r\ncontrol a i32->a # one wire\nindicator r i32 <- a\nend";
+
+const OPEN: &str = "glisting 1\nvi Main\n  control a i32 ->\nend\n";
+
+const NARROW: &str = "glisting 1\nvi Main\ncontrol a u8 -> a\nindicator r u8 <- a\nend\n";
 
 const BROKEN: &str =
     "glisting 1\nvi Main nonreentrant same\n  control a i32 -> a\n  indicator r i32 <- w\n  indicator s i32 <- t\n  add a w -> w\nend\n";
@@ -60,9 +64,11 @@ fn answers_each_call(rt: HostRuntime) -> Result<(), Fail> {
         (("run Main a=1 b", ADD), (1, "usage at word 4\n")),
         (("fly", ADD), (1, "usage at word 1\n")),
         (("run", ADD), (1, "usage at word 2\n")),
-        (("run Main a=1", CUT), (2, "syntax\n")),
-        (("run Other a=1", ADD), (2, "syntax\n")),
-        (("run Main", ""), (2, "syntax\n")),
+        (("run Main a=4", SPELLED), (0, "r = 4\n")),
+        (("run Main a=1", OPEN), (2, "syntax at 3:19\n")),
+        (("run Main", ""), (2, "syntax at 1:1\n")),
+        (("run Other c=1", ADD), (12, "not built\n")),
+        (("run Main a=1", NARROW), (12, "not built\n")),
         (
             ("run Main c=1", BROKEN),
             (3, "Main:3.1 rule 1\nMain:4.0 rule 6\n"),

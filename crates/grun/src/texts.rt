@@ -3,10 +3,11 @@
 ghost use Rattle.std.specs.Prelude.{◌≡◌, ◌++◌, ◌∷◌, [], IfOk, OnOk};
 ghost use Rattle.std.specs.Fmt.{decimal};
 ghost use Rattle.std.specs.String.{string_bytes};
-ghost use Rattle.grun.specs.Texts.{line_of, vi_name, place_text, break_text, breaks_text};
+ghost use Rattle.grun.specs.Texts.{line_of, spot_text, vi_name, place_text, break_text, breaks_text};
 
 use g_diagram::{Break, Place, Vi};
 use g_lists::List;
+use g_tokens::Spot;
 use g_types::Bytes;
 use std::alloc::{AllocError, Global};
 
@@ -24,6 +25,19 @@ pub(crate) fn numbered(alloc: Global, head: &[u8], number: u64) -> Result<Bytes,
     let mut out = Vec::new(alloc);
     out.extend_from_slice(head)?;
     push_number(alloc, &mut out, number)?;
+    out.push(b'\n')?;
+    Ok(List::from_vec(out))
+}
+
+/// A line of a fixed text and a place, `L:C`.
+pub(crate) fn placed(alloc: Global, head: &[u8], spot: Spot) -> Result<Bytes, AllocError>
+    ensures { IfOk result (λ text. text ≡ line_of (head.now ++ spot_text spot)) }
+{
+    let mut out = Vec::new(alloc);
+    out.extend_from_slice(head)?;
+    push_number(alloc, &mut out, spot.line as u64)?;
+    out.push(b':')?;
+    push_number(alloc, &mut out, spot.column as u64)?;
     out.push(b'\n')?;
     Ok(List::from_vec(out))
 }

@@ -6,9 +6,8 @@ use Rattle.grun.specs.Settings.{given_from, number_for, find}
 use Rattle.grun.specs.Views.{texts_of, entries_of}
 use Rattle.std.specs.Int.{w32}
 use Rattle.std.proofs.lemmas.Int.{to_z-of_z}
-use Rattle.grun.proofs.Fixed.{passed}
 use Rattle.grun.proofs.Spelled.{spelled_fits}
-use Rattle.grun.proofs.Finding.{find-lookup, step_none, step_again, step_more, some_of, none_of, entries-more, number_known}
+use Rattle.grun.proofs.Finding.{passed, find-lookup, step_none, step_again, step_more, some_of, none_of, entries-more, number_known}
 use Rattle.grun.proofs.settings.go_through.Goals as goal
 
 pub returns-in_default : goal.returns-in_default
