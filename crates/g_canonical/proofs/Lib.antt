@@ -1,0 +1,14 @@
+pub mod Lexing
+pub mod NumberPieces
+pub mod TextPieces
+pub mod Parts
+pub mod Tables
+pub mod TypeParts
+pub mod LiteralParts
+pub mod BorderParts
+pub mod SelectorParts
+pub mod PlainParts
+pub mod NodeParts
+pub mod PanelParts
+pub mod GoodTokens
+pub mod ListingParts
