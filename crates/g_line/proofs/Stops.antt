@@ -6,7 +6,7 @@ use Rattle.std.proofs.lemmas.List.{append-nil, take_all, take-append-drop}
 use Rattle.g_types.specs.Names.{is_word}
 use Rattle.g_line.specs.declared.forms.Setting.{Setting}
 use Rattle.g_line.specs.declared.forms.Line.{Line}
-use Rattle.g_line.specs.declared.forms.Line.TheVariants.{Run}
+use Rattle.g_line.specs.declared.forms.Line.TheVariants.{Run, Print}
 use Rattle.g_line.specs.Forms.{Word, setting_word, Sets, argument_words, settings_of, HasLine}
 use Rattle.g_line.specs.declared.forms.LineRefused.{LineRefused}
 use Rattle.g_line.specs.declared.forms.LineRefused.TheVariants.{Usage, Memory}
@@ -14,15 +14,31 @@ use Rattle.g_line.specs.Usage.{BeginsLine, IsOnlyLine, IsFirstWrong, IsRefusal}
 use Rattle.g_line.specs.Reading.{OnUsage, AreSettings, IsFirstOther, IsMain}
 use Rattle.g_line.proofs.Arguments.{settings_of-map, setting_at, same_arguments}
 
--- what a line begins with
-first_word : (words : List Word) (line : Line) → HasLine words line → slice_get words 0 ≡ Some (codes "run")
+-- the command that a line begins with
+abbrev pub command_of : Line → Word
+command_of (Run main settings) = codes "run"
+command_of Print = codes "print"
+
+first_word : (words : List Word) (line : Line) → HasLine words line → slice_get words 0 ≡ Some (command_of line)
 first_word words (Run main settings) h = ap (λ w. slice_get w 0) h.1.written
+first_word words Print h = ap (λ w. slice_get w 0) h
 
-second_word : (words : List Word) (line : Line) → HasLine words line → (main : Word) × (slice_get words 1 ≡ Some main) × (is_word main ≡ true)
-second_word words (Run main settings) h = (main, ap (λ w. slice_get w 1) h.1.written, h.1.main_is_name)
+-- a word that is no command
+pub other_command : (w : Word) → w ≢ codes "run" → w ≢ codes "print" → (line : Line) → w ≢ command_of line
+other_command w run print (Run main settings) = run
+other_command w run print Print = print
 
-later_word : (words : List Word) (line : Line) (i : ℕ) (w : Word) → HasLine words line → slice_get words (suc (suc i)) ≡ Some w → (s : Setting) × (is_word s.name ≡ true) × (w ≡ setting_word s)
-later_word words (Run main settings) i w h e = setting_at h.0 h.1.right i w (sym (ap (λ w. slice_get w (suc (suc i))) h.1.written) ∙ e)
+-- `print` is no `run`
+never_run : (words : List Word) → words ≡ codes "print" ∷ [] → slice_get words 0 ≡ Some (codes "run") → ⊥
+never_run words is run = let e : Some (codes "print") ≡ Some (codes "run") = sym (ap (λ w. slice_get w 0) is) ∙ run in absurd cc
+
+second_word : (words : List Word) (line : Line) → slice_get words 0 ≡ Some (codes "run") → HasLine words line → (main : Word) × (slice_get words 1 ≡ Some main) × (is_word main ≡ true)
+second_word words (Run main settings) run h = (main, ap (λ w. slice_get w 1) h.1.written, h.1.main_is_name)
+second_word words Print run h = absurd (never_run words h run)
+
+later_word : (words : List Word) (line : Line) (i : ℕ) (w : Word) → slice_get words 0 ≡ Some (codes "run") → HasLine words line → slice_get words (suc (suc i)) ≡ Some w → (s : Setting) × (is_word s.name ≡ true) × (w ≡ setting_word s)
+later_word words (Run main settings) i w run h e = setting_at h.0 h.1.right i w (sym (ap (λ w. slice_get w (suc (suc i))) h.1.written) ∙ e)
+later_word words Print i w run h e = absurd (never_run words h run)
 
 -- what begins a line
 begins_nothing : BeginsLine []
@@ -45,7 +61,7 @@ stops_at words k some within before never = record {
   here = λ _. never;
 }
 
-pub stops_first : (words : List Word) → ((w : Word) → slice_get words 0 ≡ Some w → w ≢ codes "run") → IsFirstWrong words 1
+pub stops_first : (words : List Word) → ((w : Word) → slice_get words 0 ≡ Some w → (line : Line) → w ≢ command_of line) → IsFirstWrong words 1
 stops_first [] other = record {
   first = omega arith;
   last = omega arith;
@@ -54,7 +70,7 @@ stops_first [] other = record {
   here = λ few b. omega arith;
 }
 stops_first (w ∷ words) other =
-    stops_at (w ∷ words) 1 (omega arith) (omega arith) begins_nothing (λ b. let e = first_word (w ∷ b.0) b.1 b.2 in other w refl cc)
+    stops_at (w ∷ words) 1 (omega arith) (omega arith) begins_nothing (λ b. let e = first_word (w ∷ b.0) b.1 b.2 in other w refl b.1 cc)
 
 pub stops_second : (words : List Word) → slice_get words 0 ≡ Some (codes "run") → ((w : Word) → slice_get words 1 ≡ Some w → is_word w ≡ false) → IsFirstWrong words 2
 stops_second [] run other = absurd cc
@@ -63,14 +79,14 @@ stops_second (a ∷ []) run other =
     record {
       first = omega arith;
       last = omega arith;
-      no_line = λ line h. let e = (second_word (a ∷ []) line h).1 in absurd cc;
+      no_line = λ line h. let e = (second_word (a ∷ []) line run h).1 in absurd cc;
       before = subst (λ w. BeginsLine (w ∷ [])) command begins_command;
       here = λ few b. omega arith;
     }
 stops_second (a ∷ b ∷ words) run other =
     let command : codes "run" ≡ a = cc in
     stops_at (a ∷ b ∷ words) 2 (omega arith) (omega arith) (subst (λ w. BeginsLine (w ∷ [])) command begins_command)
-    (λ begins. let m = second_word (a ∷ b ∷ begins.0) begins.1 begins.2 in
+    (λ begins. let m = second_word (a ∷ b ∷ begins.0) begins.1 run begins.2 in
     let same : b ≡ m.0 = let e = m.1 in cc in
     let name = m.2 in
     let none = other b refl in
@@ -84,6 +100,14 @@ slice_get-front (x ∷ words) more zero w e = e
 slice_get-front (x ∷ words) more (suc at) w e =
     let one : suc at + 1 ≡ suc (at + 1) = omega arith in
     ap (λ n. slice_get (take n (x ∷ words) ++ more) (suc at)) one ∙ slice_get-front words more at w e
+
+-- the first word of the front of a list
+slice_get-first : (words more : List Word) (at : ℕ) → slice_get words 0 ≡ Some (codes "run") → slice_get (take (at + 1) words ++ more) 0 ≡ Some (codes "run")
+slice_get-first [] more at run = absurd cc
+slice_get-first (x ∷ words) more zero run = run
+slice_get-first (x ∷ words) more (suc at) run =
+    let one : suc at + 1 ≡ suc (at + 1) = omega arith in
+    ap (λ n. slice_get (take n (x ∷ words) ++ more) 0) one ∙ run
 
 some_at : (words : List Word) (at : ℕ) → at < length words → (w : Word) × (slice_get words at ≡ Some w)
 some_at [] at lt = absurd (omega arith)
@@ -116,7 +140,8 @@ stops_later words k main run m other =
     let place : (i : ℕ) × (at ≡ suc (suc i)) = below at other.from in
     let never : BeginsLine (take (at + 1) words) → ⊥ = (λ (b : BeginsLine (take (at + 1) words)).
     let front = slice_get-front words b.0 at w.0 w.1 in
-    let s = later_word (take (at + 1) words ++ b.0) b.1 place.0 w.0 b.2 (ap (slice_get (take (at + 1) words ++ b.0)) (sym place.1) ∙ front) in
+    let first = slice_get-first words b.0 at run in
+    let s = later_word (take (at + 1) words ++ b.0) b.1 place.0 w.0 first b.2 (ap (slice_get (take (at + 1) words ++ b.0)) (sym place.1) ∙ front) in
     other.other w.0 w.1 s.0 s.1 s.2) in
     let begins = line_of_settings words main other.settings run m at other.before in
     let before : BeginsLine (take at words) = ([], Run main other.settings, subst (λ l. HasLine l (Run main other.settings)) (sym (append-nil (take at words))) begins) in
@@ -139,6 +164,31 @@ only_line words (Run main settings) h (Run main' settings') h' =
     let a = h.1.given in
     let b = h'.1.given in
     cc
+only_line words (Run main settings) h Print h' = absurd (never_run words h' (first_word words (Run main settings) h))
+only_line words Print h (Run main settings) h' = absurd (never_run words h (first_word words (Run main settings) h'))
+only_line words Print h Print h' = refl
+
+-- `print` and no further word
+pub has_print : (words : List Word) → slice_get words 0 ≡ Some (codes "print") → length words ≤ 1 → HasLine words Print
+has_print [] print few = absurd cc
+has_print (a ∷ []) print few = let command : a ≡ codes "print" = cc in ap (λ (w : Word). w ∷ []) command
+has_print (a ∷ b ∷ words) print few = absurd (omega (arith, few))
+
+-- `print` and a further word
+pub stops_print : (words : List Word) → slice_get words 0 ≡ Some (codes "print") → 1 < length words → IsFirstWrong words 2
+stops_print [] print more = absurd cc
+stops_print (a ∷ []) print more = absurd (omega (arith, more))
+stops_print (a ∷ b ∷ words) print more =
+    let command : codes "print" ≡ a = cc in
+    let before : BeginsLine (a ∷ []) = ([], Print, ap (λ (w : Word). w ∷ []) (sym command)) in
+    stops_at (a ∷ b ∷ words) 2 (omega arith) (omega arith) before (λ begins. never begins.0 begins.1 begins.2)
+  where
+    never : (end : List Word) (line : Line) → HasLine (a ∷ b ∷ end) line → ⊥
+    never end (Run main settings) h =
+        let run : Some a ≡ Some (codes "run") = first_word (a ∷ b ∷ end) (Run main settings) h in
+        let not_run : Some a ≡ Some (codes "print") = print in
+        absurd cc
+    never end Print h = absurd cc
 
 -- a refusal at a word
 pub refusal_at : (P : ℕ → Type 0) (words : List Word) (e : LineRefused) → ((k : ℕ) → P k → IsFirstWrong words k) → OnUsage P e → IsRefusal words e

@@ -4,7 +4,7 @@ use Rattle.std.specs.List.{AllByRecursion, flat_map}
 use Rattle.g_types.specs.Names.{is_word}
 use Rattle.g_line.specs.declared.forms.Setting.{Setting}
 use Rattle.g_line.specs.declared.forms.Line.{Line}
-use Rattle.g_line.specs.declared.forms.Line.TheVariants.{Run}
+use Rattle.g_line.specs.declared.forms.Line.TheVariants.{Run, Print}
 
 -- a word, by its bytes
 abbrev pub Word : Type 0
@@ -40,6 +40,7 @@ pub record IsRun (words : List Word) (main : Word) (settings : List Setting) (ar
 -- the words are written so, by one case a command
 abbrev pub HasLine : List Word → Line → Type 0
 HasLine words (Run main settings) = (arguments : List Argument) × IsRun words main settings arguments
+HasLine words Print = words ≡ codes "print" ∷ []
 
 -- examples: `run Main a=1 b==` has the settings 1 and `=`
 two : List Setting
@@ -56,3 +57,7 @@ runs_main = (
     given = refl;
   },
 )
+
+-- `print` is a line
+prints : HasLine (codes "print" ∷ []) Print
+prints = refl

@@ -25,6 +25,8 @@ pub enum Line {
         /// In the order of the words; a name may stand twice.
         settings: List<Setting>,
     },
+    /// `print` alone: prints the canonical text of a listing.
+    Print,
 }
 
 /// Why there is no line.

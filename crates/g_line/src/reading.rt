@@ -72,6 +72,19 @@ fn run(alloc: Global, words: &[String]) -> Result<Line, LineRefused>
     Ok(Line::Run { main, settings })
 }
 
+/// `print`, which takes no further word.
+fn print(words: &[String]) -> Result<Line, LineRefused>
+    requires { slice_get (map string_bytes words.now) 0 ≡ Some (codes "print") }
+    ensures has { IfOk result (HasLine (map string_bytes words.now)) }
+    ensures only { IfOk result (IsOnlyLine (map string_bytes words.now)) }
+    ensures refused { IfErr result (IsRefusal (map string_bytes words.now)) }
+{
+    if words.len() > 1 {
+        return Err(LineRefused::Usage(2));
+    }
+    Ok(Line::Print)
+}
+
 /// What the words ask for. A setting is cut at its first `=`. Refused where the words are no line's,
 /// at the first word that no line has there, and where memory is wanting.
 pub fn line(alloc: Global, words: &Vec<String>) -> Result<Line, LineRefused>
@@ -85,6 +98,7 @@ pub fn line(alloc: Global, words: &Vec<String>) -> Result<Line, LineRefused>
     };
     match command.as_str() {
         "run" => run(alloc, words),
+        "print" => print(words),
         _ => Err(LineRefused::Usage(1)),
     }
 }
@@ -108,6 +122,9 @@ mod tests {
         for (text, first_wrong) in [
             ("", 1),
             ("fly", 1),
+            ("prin", 1),
+            ("print x", 2),
+            ("print print", 2),
             ("run", 2),
             ("run 2nd", 2),
             ("run Main a=1 b", 4),
@@ -124,10 +141,22 @@ mod tests {
     }
 
     #[test]
+    fn print_is_a_line(rt: HostRuntime) -> Result<(), Fail> {
+        let alloc = rt.alloc();
+        let words = words_of(alloc, "print")?;
+        let is_print = matches!(&line(alloc, &words)?, Line::Print);
+        assert!(rt; is_print);
+        Ok(())
+    }
+
+    #[test]
     fn a_setting_ends_at_its_first_equals_sign(rt: HostRuntime) -> Result<(), Fail> {
         let alloc = rt.alloc();
         let words = words_of(alloc, "run Main a=1 b= a=x=y")?;
-        let Line::Run { main, settings } = line(alloc, &words)?;
+        let Line::Run { main, settings } = &line(alloc, &words)? else {
+            assert!(rt; false);
+            return Ok(());
+        };
         assert_eq!(rt; main.as_slice(), b"Main".as_slice());
         let wanted: [(&[u8], &[u8]); 3] = [(b"a", b"1"), (b"b", b""), (b"a", b"x=y")];
         assert_eq!(rt; settings.len(), wanted.len());
