@@ -5,13 +5,14 @@ use Rattle.g_values.specs.declared.value.Value.{Value}
 use Rattle.g_diagram.specs.declared.place.Break.{Break}
 use Rattle.g_diagram.specs.declared.hierarchy.Vi.{Vi}
 use Rattle.g_diagram.specs.declared.hierarchy.Hierarchy.{Hierarchy}
+use Rattle.g_diagram.specs.Text.{text_of}
 use Rattle.g_tokens.specs.declared.token.Spot.{Spot}
 use Rattle.g_syntax.specs.Listing.{IsListing}
 use Rattle.g_listing.specs.Refusal.{IsRefusal}
 use Rattle.g_listing.specs.declared.listing.ListingRefused.TheVariants.{Syntax}
 use Rattle.g_line.specs.declared.forms.Setting.{Setting}
 use Rattle.g_line.specs.declared.forms.Line.{Line}
-use Rattle.g_line.specs.declared.forms.Line.TheVariants.{Run}
+use Rattle.g_line.specs.declared.forms.Line.TheVariants.{Run, Print}
 use Rattle.g_line.specs.Forms.{HasLine}
 use Rattle.g_line.specs.Usage.{IsFirstWrong}
 use Rattle.g_wires.specs.Breaks.{IsWiring}
@@ -56,6 +57,13 @@ pub data IsRunAnswer (vi : Vi) (settings : List Setting) : Option (List Firing) 
   -- a run
   ran : (numbers : Numbers) (trace : List Firing) (r : Reply) → IsWiring (hierarchy_of vi) [] → given vi.panel settings ≡ Right numbers → Runs (hierarchy_of vi) (control_values vi.panel numbers) trace r → IsRunAnswer vi settings (Some trace) r
 
+-- the answer to a run of a hierarchy
+pub data IsHierarchyAnswer (main : List ℕ) (settings : List Setting) (h : Hierarchy) : Option (List Firing) → Reply → Type 0 where
+  -- it is of another form than that which runs
+  not_built : (IsFormOf main h → ⊥) → IsHierarchyAnswer main settings h None (reply 12 (line_of (codes "not built")))
+  -- it is one VI of the form that runs
+  built : (vi : Vi) (trace : Option (List Firing)) (r : Reply) → h ≡ hierarchy_of vi → IsFormOf main h → IsRunAnswer vi settings trace r → IsHierarchyAnswer main settings h trace r
+
 -- the answer to words and bytes
 pub data IsAnswer (words : List (List ℕ)) (bytes : List ℕ) : Option (List Firing) → Reply → Type 0 where
   -- no line has these words
@@ -64,8 +72,8 @@ pub data IsAnswer (words : List (List ℕ)) (bytes : List ℕ) : Option (List Fi
   too_long : (line : Line) → HasLine words line → LIMIT < length bytes → IsAnswer words bytes None (reply 10 (line_of (codes "too long")))
   -- the bytes are no listing: the first token that no listing has after those before it
   syntax : (line : Line) (spot : Spot) → HasLine words line → length bytes ≤ LIMIT → IsRefusal bytes (Syntax spot) → IsAnswer words bytes None (reply 2 (line_of (codes "syntax at " ++ spot_text spot)))
-  -- they are one, but of another form than that which runs
-  not_built : (main : List ℕ) (settings : List Setting) (h : Hierarchy) → HasLine words (Run main settings) → length bytes ≤ LIMIT → IsListing bytes h → (IsFormOf main h → ⊥) → IsAnswer words bytes None (reply 12 (line_of (codes "not built")))
-  -- they are one of the form
-  listed : (main : List ℕ) (settings : List Setting) (vi : Vi) (trace : Option (List Firing)) (r : Reply) → HasLine words (Run main settings) → length bytes ≤ LIMIT → IsListing bytes (hierarchy_of vi) → IsFormOf main (hierarchy_of vi)
-      → IsRunAnswer vi settings trace r → IsAnswer words bytes trace r
+  -- they are one, which is printed
+  printed : (h : Hierarchy) → HasLine words Print → length bytes ≤ LIMIT → IsListing bytes h → IsAnswer words bytes None (reply 0 (text_of h))
+  -- they are one, which is run
+  runs : (main : List ℕ) (settings : List Setting) (h : Hierarchy) (trace : Option (List Firing)) (r : Reply) → HasLine words (Run main settings) → length bytes ≤ LIMIT → IsListing bytes h → IsHierarchyAnswer main settings h trace r
+      → IsAnswer words bytes trace r

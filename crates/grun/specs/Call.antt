@@ -22,7 +22,7 @@ Answers words (Some bytes) trace r = IsAnswer words bytes trace r
 
 -- the statuses that say that the input was read to its end
 abbrev pub has_read : ℕ → Bool
-has_read n = (n == 0) || ((n == 2) || ((n == 3) || (n == 4)))
+has_read n = (n == 0) || ((n == 2) || ((n == 3) || ((n == 4) || (n == 12))))
 
 -- what is answered: the answer, or that the source failed, whose count rose
 pub data Found (words : List (List ℕ)) (left : Option (List ℕ)) (source_old source_new : ℕ) (trace : Option (List Firing)) (r : Reply) : Type 0 where

@@ -3,22 +3,22 @@
 ghost use Rattle.std.specs.Prelude.{◌≡◌, ◌<◌, ◌≤◌, ◌+◌, ◌∷◌, [], List as Row, ℕ, Some, None, length, IfOk};
 ghost use Rattle.g_diagram.specs.Form.{IsForm};
 ghost use Rattle.g_diagram.specs.declared.hierarchy.Vi.{Vi as Instrument};
-ghost use Rattle.g_line.specs.declared.forms.Line.TheVariants.{Run};
 ghost use Rattle.g_line.specs.Forms.{HasLine};
 ghost use Rattle.g_fire.specs.declared.firing.Firing.{Firing};
 ghost use Rattle.g_fire.specs.Plan.{AreControls};
 ghost use Rattle.g_wires.specs.Breaks.{IsWiring};
 ghost use Rattle.grun.specs.Listing.{hierarchy_of};
-ghost use Rattle.grun.specs.Answer.{reply, Runs, IsRunAnswer, IsAnswer, LIMIT as MOST};
+ghost use Rattle.grun.specs.Answer.{reply, Runs, IsRunAnswer, IsHierarchyAnswer, IsAnswer, LIMIT as MOST};
 
 use crate::form::is_form;
 use crate::settings::{Given, control_names, go_through, values};
 use crate::texts::{breaks_text, fixed, numbered, placed};
 use g_diagram::{Hierarchy, Vi};
 use g_fire::{Trace, run_all, state_text};
-use g_line::Setting;
+use g_line::{Line, Setting};
 use g_listing::{ListingRefused, read_listing};
 use g_lists::List;
+use g_print::print_listing;
 use g_types::{Bytes, Name};
 use g_values::ValueList;
 use g_wires::wiring;
@@ -48,7 +48,7 @@ fn run(alloc: Global, h: &Hierarchy, controls: ValueList) -> Result<Answer, Allo
     })
 }
 
-pub(crate) fn refused(status: u8, text: Bytes) -> Answer
+pub(crate) fn plain(status: u8, text: Bytes) -> Answer
     ensures status { result.status ≡ status }
     ensures text { result.text ≡ text }
     ensures trace { result.trace ≡ None }
@@ -84,7 +84,7 @@ fn answer_settings(
     match go_through(alloc, &controls, settings)? {
         Given::Wrong(place) => {
             let text = numbered(alloc, b"control at word ", word_of(place, settings))?;
-            Ok(refused(4, text))
+            Ok(plain(4, text))
         }
         Given::Right(numbers) => {
             let values = values(alloc, &controls, &numbers)?;
@@ -104,28 +104,38 @@ fn answer_form(alloc: Global, h: &Hierarchy, settings: &[Setting]) -> Result<Ans
         return answer_settings(alloc, h, vi, settings);
     }
     let text = breaks_text(alloc, h.vis.as_slice(), breaks.as_slice())?;
-    Ok(refused(3, text))
+    Ok(plain(3, text))
 }
 
-/// The answer to a run of a listing.
-pub(crate) fn answer_run(
+/// The answer to a run of a hierarchy.
+fn answer_run(
     alloc: Global,
+    h: &Hierarchy,
     main: &Name,
     settings: &[Setting],
-    bytes: &[u8],
 ) -> Result<Answer, AllocError>
+    ensures { IfOk result (λ answer. IsHierarchyAnswer main.now settings.now h.now answer.trace (reply answer.status answer.text)) }
+{
+    if !is_form(alloc, h, main)? {
+        return Ok(plain(12, fixed(alloc, b"not built")?));
+    }
+    answer_form(alloc, h, settings)
+}
+
+/// The answer to a line and a listing.
+pub(crate) fn answer_line(alloc: Global, line: &Line, bytes: &[u8]) -> Result<Answer, AllocError>
     requires { length bytes.now ≤ MOST }
-    ensures { IfOk result (λ answer. (words : Row (Row ℕ)) → HasLine words (Run main.now settings.now) → IsAnswer words bytes.now answer.trace (reply answer.status answer.text)) }
+    ensures { IfOk result (λ answer. (words : Row (Row ℕ)) → HasLine words line.now → IsAnswer words bytes.now answer.trace (reply answer.status answer.text)) }
 {
     let h = match read_listing(alloc, bytes) {
         Ok(h) => h,
         Err(ListingRefused::Syntax(spot)) => {
-            return Ok(refused(2, placed(alloc, b"syntax at ", spot)?));
+            return Ok(plain(2, placed(alloc, b"syntax at ", spot)?));
         }
         Err(ListingRefused::Memory(error)) => return Err(error),
     };
-    if !is_form(alloc, &h, main)? {
-        return Ok(refused(12, fixed(alloc, b"not built")?));
+    match line {
+        Line::Print => Ok(plain(0, print_listing(alloc, &h)?)),
+        Line::Run { main, settings } => answer_run(alloc, &h, main, settings.as_slice()),
     }
-    answer_form(alloc, &h, settings)
 }

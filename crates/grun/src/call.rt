@@ -6,11 +6,11 @@ ghost use Rattle.std.specs.Io.KnownBytes.{IsAtEnd};
 ghost use Rattle.grun.specs.Call.{Delivers, Ending, Found, has_read};
 ghost use Rattle.grun.specs.Answer.{reply};
 
-use crate::answer::{Answer, answer_run, refused};
+use crate::answer::{Answer, answer_line, plain};
 use crate::texts::{fixed, numbered};
 use g_fire::Trace;
 use g_io::{ReadRefused, Sink, Source, read_all, write_all_of};
-use g_line::{Line, LineRefused, line};
+use g_line::{LineRefused, line};
 use std::alloc::{AllocError, Global};
 
 /// How a call ended: the status, and the firings of a run where what was to be written is a run's
@@ -80,17 +80,17 @@ fn answer<S: Source>(
     ensures answer { IfOk result (λ answer. Found (map string_bytes words.now.items) (S.left source.old) (S.faults source.old) (S.faults source.new) answer.trace (reply answer.status answer.text)) }
     ensures read_to_end { IfOk result (λ answer. has_read answer.status ≡ true → IsAtEnd (S.left source.new)) }
 {
-    let (main, settings) = match line(alloc, words) {
-        Ok(Line::Run { main, settings }) => (main, settings),
+    let line = match line(alloc, words) {
+        Ok(line) => line,
         Err(LineRefused::Usage(k)) => {
-            return Ok(refused(1, numbered(alloc, b"usage at word ", k)?));
+            return Ok(plain(1, numbered(alloc, b"usage at word ", k)?));
         }
         Err(LineRefused::Memory(e)) => return Err(e),
     };
     match read_all(alloc, source, LIMIT) {
-        Ok(bytes) => answer_run(alloc, &main, settings.as_slice(), bytes.as_slice()),
-        Err(ReadRefused::Fault) => Ok(refused(7, fixed(alloc, b"read fault")?)),
-        Err(ReadRefused::TooLong) => Ok(refused(10, fixed(alloc, b"too long")?)),
+        Ok(bytes) => answer_line(alloc, &line, bytes.as_slice()),
+        Err(ReadRefused::Fault) => Ok(plain(7, fixed(alloc, b"read fault")?)),
+        Err(ReadRefused::TooLong) => Ok(plain(10, fixed(alloc, b"too long")?)),
         Err(ReadRefused::Memory(e)) => Err(e),
     }
 }

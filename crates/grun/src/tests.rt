@@ -12,6 +12,9 @@ const ADD: &str =
 const SPELLED: &str =
     "glisting 01 # the first version\n\nvi Main\r\ncontrol a i32->a # one wire\nindicator r i32 <- a\nend";
 
+const PRINTED: &str =
+    "glisting 1\nvi Main nonreentrant same\n  control a i32 -> a\n  indicator r i32 <- a\nend\n";
+
 const OPEN: &str = "glisting 1\nvi Main\n  control a i32 ->\nend\n";
 
 const NARROW: &str = "glisting 1\nvi Main\ncontrol a u8 -> a\nindicator r u8 <- a\nend\n";
@@ -45,7 +48,7 @@ fn answers(
     let words = words(rt, call.0)?;
     let bytes = Bytes::from_slice(rt.alloc(), call.1.as_bytes())?;
     let mut source = MemorySource::new(bytes, 64, calls(rt, fails.0)?);
-    let room = Bytes::from_vec(vec![in rt.alloc(); b'.'; 64]?);
+    let room = Bytes::from_vec(vec![in rt.alloc(); b'.'; 128]?);
     let mut sink = MemorySink::new(16, calls(rt, fails.1)?, room);
     let outcome = grun_call(rt.alloc(), &words, &mut source, &mut sink);
     Ok(outcome.status == wanted.0 && sink.written() == wanted.1.as_bytes())
@@ -67,6 +70,9 @@ fn answers_each_call(rt: HostRuntime) -> Result<(), Fail> {
         (("run Main a=4", SPELLED), (0, "r = 4\n")),
         (("run Main a=1", OPEN), (2, "syntax at 3:19\n")),
         (("run Main", ""), (2, "syntax at 1:1\n")),
+        (("print", SPELLED), (0, PRINTED)),
+        (("print", OPEN), (2, "syntax at 3:19\n")),
+        (("print x", ADD), (1, "usage at word 2\n")),
         (("run Other c=1", ADD), (12, "not built\n")),
         (("run Main a=1", NARROW), (12, "not built\n")),
         (

@@ -17,4 +17,4 @@ returns c =
     let some : c.in_ok-breaks.breaks ≢ [] = λ none. true≢false (sym (c.is_empty.ensures.1 none) ∙ c.if-is_empty.false) in
     let vis : c.as_slice-2.result.now ≡ vi ∷ [] = c.as_slice-2.ensures ∙ c.requires.one in
     let text = c.in_ok-text.ensures ∙ ap (λ (vis : List Vi). breaks_text vis c.as_slice-3.result.now) vis ∙ ap (breaks_text (vi ∷ [])) c.as_slice-3.ensures in
-    (vi, same, rw (c.refused.ensures.trace, c.refused.ensures.status, c.refused.ensures.text, text) (broken c.in_ok-breaks.breaks found some))
+    (vi, same, rw (c.plain.ensures.trace, c.plain.ensures.status, c.plain.ensures.text, text) (broken c.in_ok-breaks.breaks found some))

@@ -27,7 +27,7 @@ returns-in-Wrong c =
     let names : texts_of c.deref.result.now ≡ control_names c.args.vi.now.panel = ap texts_of c.deref.ensures.value ∙ c.in_ok-controls.ensures ∙ ap control_names c.as_slice.ensures in
     let wrong : given_from (control_names c.args.vi.now.panel) [] 0 c.args.settings.now ≡ Wrong c.in-Wrong.place = ap (λ (ns : List (List ℕ)). given_from ns [] 0 c.args.settings.now) (sym names) ∙ sym c.in_ok-place.ensures ∙ ap given_seen c.in-Wrong.is in
     let sound = subst (λ (h : Hierarchy). IsWiring h []) c.requires.one c.requires.sound in
-    rw (c.refused.ensures.trace, c.refused.ensures.status, c.refused.ensures.text, c.in_ok-text-in-Wrong.ensures, c.word_of.ensures) (control c.in-Wrong.place sound wrong)
+    rw (c.plain.ensures.trace, c.plain.ensures.status, c.plain.ensures.text, c.in_ok-text-in-Wrong.ensures, c.word_of.ensures) (control c.in-Wrong.place sound wrong)
 
 pub from_list-requires : goal.from_list-requires
 from_list-requires c =

@@ -31,11 +31,11 @@ long_answers words line (Some bytes) has longer = too_long line has longer
 pub returns-in-Err-Usage-clause-answer : goal.returns-in-Err-Usage-clause-answer
 returns-in-Err-Usage-clause-answer g c =
     let words = map string_bytes c.args.words.now.items in
-    rw (c.refused.ensures.trace, c.refused.ensures.status, c.refused.ensures.text, c.in_ok-numbered-in-Err-Usage.ensures)
+    rw (c.plain.ensures.trace, c.plain.ensures.status, c.plain.ensures.text, c.in_ok-numbered-in-Err-Usage.ensures)
     (answer (usage_answers words (g.S.Source.left c.args.source.now) c.in-Err-Usage.k (subst (IsRefusal words) c.in-Err-Usage.field-0-is c.in-Err-Usage.ensures.refused)))
 
 pub returns-in-Err-TooLong-clause-answer : goal.returns-in-Err-TooLong-clause-answer
 returns-in-Err-TooLong-clause-answer g c =
     let words = map string_bytes c.args.words.now.items in
-    rw (c.refused-in-Err-TooLong.ensures.trace, c.refused-in-Err-TooLong.ensures.status, c.refused-in-Err-TooLong.ensures.text, c.in_ok-fixed-in-Err-TooLong.ensures)
-    (answer (long_answers words c.in-Ok-Run.field-0 (g.S.Source.left c.args.source.now) c.in-Ok-Run.ensures.has (c.in-Err-TooLong.ensures.too_long (ap Err c.in-Err-TooLong.field-0-is))))
+    rw (c.plain-in-Err-TooLong.ensures.trace, c.plain-in-Err-TooLong.ensures.status, c.plain-in-Err-TooLong.ensures.text, c.in_ok-fixed-in-Err-TooLong.ensures)
+    (answer (long_answers words c.in-Ok.line (g.S.Source.left c.args.source.now) c.in-Ok.ensures.has (c.in-Err-TooLong.ensures.too_long (ap Err c.in-Err-TooLong.field-0-is))))
