@@ -1,3 +1,4 @@
+pub mod TextLemmas
 pub mod Lexing
 pub mod NumberPieces
 pub mod TextPieces

@@ -8,7 +8,7 @@ use Rattle.g_tokens.specs.declared.token.Mark.TheVariants as mark
 use Rattle.g_diagram.specs.declared.panel.Lit.{Lit}
 use Rattle.g_diagram.specs.declared.panel.Lit.TheVariants as lit
 use Rattle.g_diagram.specs.Text as text
-use Rattle.g_print.proofs.TextLemmas.{literal-Number, literal-Truth, literal-Text, literal-Null, literal-Array, literal-Cluster}
+use Rattle.g_canonical.proofs.TextLemmas.{literal-Number, literal-Truth, literal-Text, literal-Null, literal-Array, literal-Cluster}
 use Rattle.g_syntax.specs.declared.LiteralFirst.{LiteralFirst}
 use Rattle.g_syntax.specs.declared.LiteralFirst.TheVariants as begin
 use Rattle.g_syntax.specs.Words.{close_bracket, comma_or_bracket}

@@ -8,7 +8,7 @@ use Rattle.g_diagram.specs.declared.node.Branch.{Branch}
 use Rattle.g_diagram.specs.declared.node.SequenceFrame.{SequenceFrame}
 use Rattle.g_diagram.specs.declared.node.Node.{Node}
 use Rattle.g_diagram.specs.Text as text
-use Rattle.g_print.proofs.TextLemmas.{node-For, node-While, node-Case, node-Sequence, node-InPlace, diagram-nodes, branch-parts, frame-parts}
+use Rattle.g_canonical.proofs.TextLemmas.{node-For, node-While, node-Case, node-Sequence, node-InPlace, diagram-nodes, branch-parts, frame-parts}
 use Rattle.g_syntax.specs.declared.Border.{Border}
 use Rattle.g_syntax.specs.declared.Border.TheVariants as border
 use Rattle.g_syntax.specs.declared.Until.{Until}

@@ -10,7 +10,7 @@ use Rattle.g_diagram.specs.declared.panel.PanelItem.{PanelItem}
 use Rattle.g_diagram.specs.declared.node.Node.{Node}
 use Rattle.g_diagram.specs.declared.hierarchy.Vi.{Vi}
 use Rattle.g_diagram.specs.Text as text
-use Rattle.g_print.proofs.TextLemmas.{diagram-nodes}
+use Rattle.g_canonical.proofs.TextLemmas.{diagram-nodes}
 use Rattle.g_syntax.specs.declared.PanelWord.{PanelWord}
 use Rattle.g_syntax.specs.declared.PanelWord.TheVariants as panel_word
 use Rattle.g_syntax.specs.declared.ControlMark.{ControlMark}

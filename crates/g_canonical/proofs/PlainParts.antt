@@ -9,7 +9,7 @@ use Rattle.g_tokens.specs.declared.token.Token.TheVariants as token
 use Rattle.g_diagram.specs.declared.node.Node.{Node}
 use Rattle.g_diagram.specs.Text as text
 use Rattle.g_diagram.specs.Words.{primitive_text, shared_text}
-use Rattle.g_print.proofs.TextLemmas.{node-Const, node-Apply, node-Shared, node-Obtain, node-Read, node-Write, node-Call}
+use Rattle.g_canonical.proofs.TextLemmas.{node-Const, node-Apply, node-Shared, node-Obtain, node-Read, node-Write, node-Call}
 use Rattle.g_syntax.specs.declared.NodeWord.{NodeWord}
 use Rattle.g_syntax.specs.declared.NodeWord.TheVariants as word_of
 use Rattle.g_syntax.specs.declared.PlainWord.{PlainWord}

@@ -4,6 +4,9 @@
 
 ghost use Rattle.std.specs.Prelude.{◌≡◌, ◌++◌, ℕ, List, OnOk, IfOk};
 ghost use Rattle.g_diagram.specs.Text as spec;
+ghost use Rattle.g_diagram.specs.declared.hierarchy.Hierarchy.{Hierarchy as Whole};
+ghost use Rattle.g_syntax.specs.Listing.{IsListing};
+ghost use Rattle.g_canonical.specs.Bytes.{IsBytes};
 
 mod borders;
 mod literals;
@@ -17,9 +20,12 @@ use g_types::Bytes;
 use page::Page;
 use std::alloc::{AllocError, Global};
 
-/// The canonical text of the hierarchy. Only want of memory refuses it.
+/// The canonical text of the hierarchy. Where some bytes have the hierarchy, the text reads back as it
+/// and as no other. Only want of memory refuses it.
 pub fn print_listing(alloc: Global, h: &Hierarchy) -> Result<Bytes, AllocError>
-    ensures { IfOk result (λ text. text ≡ spec.text_of h.now) }
+    ensures text { IfOk result (λ text. text ≡ spec.text_of h.now) }
+    ensures reads_back { IfOk result (λ text. (bytes : List ℕ) → IsBytes bytes → IsListing bytes h.now → IsListing text h.now) }
+    ensures only { IfOk result (λ text. (bytes : List ℕ) (g : Whole) → IsBytes bytes → IsListing bytes h.now → IsListing text g → g ≡ h.now) }
 {
     let mut page = Page::new(alloc);
     page.bare_line(0, b"glisting 1")?;
