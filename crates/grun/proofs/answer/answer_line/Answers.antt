@@ -14,7 +14,7 @@ returns-in-Err-Syntax c words has =
 
 pub returns-in-Print : goal.returns-in-Print
 returns-in-Print c words has =
-    rw (c.plain-in-Print.ensures.trace, c.plain-in-Print.ensures.status, c.plain-in-Print.ensures.text, c.in_ok-print_listing-in-Print.ensures)
+    rw (c.plain-in-Print.ensures.trace, c.plain-in-Print.ensures.status, c.plain-in-Print.ensures.text, c.in_ok-print_listing-in-Print.ensures.text)
     (printed c.in-Ok.h (subst (HasLine words) c.in-Print.is has) c.requires c.in-Ok.ensures.found)
 
 pub returns : goal.returns
