@@ -4,3 +4,4 @@ pub mod KeptLemmas
 pub mod QuotientLemmas
 pub mod ReadLemmas
 pub mod ZipLemmas
+pub mod InputLemmas

@@ -62,7 +62,11 @@ fn shifted(x: Num, n: Num) -> Num
     ensures { result ≡ num_of x.rep (spec.shifted x.rep x.n n.n) }
 {
     let by = n.n.unsigned_abs();
-    if n.n < 0 { shifted_right(x, by) } else { shifted_left(x, by) }
+    if n.n < 0 {
+        shifted_right(x, by)
+    } else {
+        shifted_left(x, by)
+    }
 }
 
 /// The bits of a number, moved to the left by a number above 0, to the right by one below, without the
