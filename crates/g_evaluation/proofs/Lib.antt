@@ -5,3 +5,8 @@ pub mod QuotientLemmas
 pub mod ReadLemmas
 pub mod ZipLemmas
 pub mod InputLemmas
+pub mod ProperNumbers
+pub mod ProperArrays
+pub mod ProperTexts
+pub mod RowFacts
+pub mod ProperOutputs
