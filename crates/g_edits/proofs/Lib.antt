@@ -4,5 +4,6 @@ pub mod ByteLemmas
 pub mod NumLemmas
 pub mod SortLemmas
 pub mod SortNumbers
+pub mod SortTexts
 pub mod TypeLemmas
 pub mod WordLemmas

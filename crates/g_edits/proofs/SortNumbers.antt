@@ -61,7 +61,7 @@ keys_keys r (w ∷ ws) p =
     ap (λ k. k ∷ map (key r) (map (key r) ws)) (key_key r w (below r w (All-head (IsWord r) w ws p)))
     ∙ ap (λ l. w ∷ l) (keys_keys r ws (All-tail (IsWord r) w ws p))
 
-get_mapped : {A B : Type 0} (f : A → B) (xs : List A) (k : ℕ) (d : B) (e : A) → k < length xs → get_or (map f xs) k d ≡ f (get_or xs k e)
+pub get_mapped : {A B : Type 0} (f : A → B) (xs : List A) (k : ℕ) (d : B) (e : A) → k < length xs → get_or (map f xs) k d ≡ f (get_or xs k e)
 get_mapped f [] k d e h = absurd (omega arith)
 get_mapped f (x ∷ xs) zero d e h = refl
 get_mapped f (x ∷ xs) (suc k) d e h = get_mapped f xs k d e (omega arith)

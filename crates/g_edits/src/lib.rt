@@ -21,7 +21,7 @@ pub use clusters::{get, parts, put};
 pub use copies::copy;
 pub use counts::{count, index};
 pub use limits::MOST;
-pub use sorting::sorted_numbers;
+pub use sorting::{sort, sorted_numbers};
 pub use strings::{bytes_str, str_bytes, str_concat, str_subset, text};
 pub use words::{
     Operator, absolute_number, absolute_word, combined_number, combined_word, number_of_word,

@@ -1,14 +1,25 @@
 //! Arrays in ascending order.
 
 ghost use Rattle.std.specs.Prelude.{◌≡◌, ◌+◌, ◌%◌, ◌^◌, int_lt, map};
+ghost use Rattle.std.specs.Cmp.Lexicographic.{slice_cmp};
+ghost use Rattle.std.specs.Ordering.{nat_cmp};
 ghost use Rattle.g_operations.specs.Arithmetic.{numbers_of};
+ghost use Rattle.g_operations.specs.Arrays as arrays;
 ghost use Rattle.g_operations.specs.Arrays.{sorted};
+ghost use Rattle.g_operations.specs.Bits.{items_of};
+ghost use Rattle.g_operations.specs.Comparisons.{less};
+ghost use Rattle.g_operations.specs.Strings as strings;
+ghost use Rattle.g_edits.specs.Texts.{AreTexts, IsSortable};
 ghost use Rattle.g_edits.specs.Words as spec;
 ghost use Rattle.g_values.specs.Numbers.{AreWords, number};
 
+use crate::arrays::nothing;
+use crate::strings::text;
 use crate::words::{Operator, on_two_words};
+use g_lists::List;
 use g_types::Rep;
-use g_values::NumArr;
+use g_values::{ArrOf, NumArr, Value, ValueArr};
+use std::cmp::Ordering;
 
 /// What is added to a word so that words stand in the order of their numbers.
 fn sign(rep: Rep) -> u64
@@ -48,4 +59,40 @@ pub fn sorted_numbers(xs: NumArr) -> NumArr
     let NumArr { rep, mut words } = xs;
     sort_words(rep, &mut words);
     NumArr { rep, words }
+}
+
+fn compare_texts(a: &Value, b: &Value) -> Ordering
+    ensures { result ≡ slice_cmp nat_cmp (strings.text a.now) (strings.text b.now) }
+{
+    text(a).cmp(text(b))
+}
+
+fn sort_texts(items: &mut Vec<Value>)
+    requires { AreTexts items.old.items }
+    ensures { items.new.items ≡ sorted less items.old.items }
+{
+    items.sort_unstable_by(|a, b| compare_texts(a, b));
+}
+
+fn sorted_texts(xs: ValueArr) -> ValueArr
+    requires { AreTexts xs.items }
+    ensures { result ≡ items_of xs (sorted less xs.items) }
+{
+    let ArrOf { elem, items } = xs;
+    let mut items = items.into_vec();
+    sort_texts(&mut items);
+    let items = List::from_vec(items);
+    ArrOf { elem, items }
+}
+
+/// The elements in ascending order: numbers by their values, strings by their bytes.
+pub fn sort(a: Value) -> Value
+    requires { IsSortable a }
+    ensures { result ≡ arrays.sort a }
+{
+    match a {
+        Value::Nums(xs) => Value::Nums(sorted_numbers(xs)),
+        Value::Arr(xs) => Value::Arr(sorted_texts(xs)),
+        other => nothing(other),
+    }
 }

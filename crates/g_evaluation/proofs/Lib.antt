@@ -4,3 +4,9 @@ pub mod KeptLemmas
 pub mod QuotientLemmas
 pub mod ReadLemmas
 pub mod ZipLemmas
+pub mod InputLemmas
+pub mod ProperNumbers
+pub mod ProperArrays
+pub mod ProperTexts
+pub mod RowFacts
+pub mod ProperOutputs

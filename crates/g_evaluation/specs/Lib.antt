@@ -1,1 +1,2 @@
 pub mod Accumulated
+pub mod Conditions

@@ -1,4 +1,4 @@
-//! The primitives: the types that each gives for the types of its inputs.
+//! The primitives: the types that each gives for the types of its inputs, and the values.
 #![tactic(auto)]
 
 mod array_rows;
@@ -11,6 +11,8 @@ mod rows;
 mod string_rows;
 #[cfg(test)]
 mod tests;
+mod values;
 
 pub use refusal::RowRefused;
 pub use rows::type_row;
+pub use values::apply;
