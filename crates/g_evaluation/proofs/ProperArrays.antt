@@ -19,13 +19,12 @@ use Rattle.g_values.specs.declared.value.Value.TheOpen.{Value-F}
 use Rattle.g_values.specs.declared.value.Value.TheViews.{roll-Value, roll-out-Value}
 use Rattle.g_values.proofs.DefaultValues.{proper-default}
 use Rattle.g_values.proofs.ProperLemmas.{proper_bool, proper_nums}
-use Rattle.g_values.proofs.ProperParts.{proper_array, proper_items, layer-of_array}
+use Rattle.g_values.proofs.ProperParts.{proper_array, proper_items, layer-of_array, spelled_elem}
 use Rattle.g_values.proofs.TypesOf.{type-Arr}
 use Rattle.g_operations.specs.Arithmetic.{numbers_of}
 use Rattle.g_operations.specs.Arrays.{element_at, element, replaced_at, replaced, index, subset, without, within, count, insert, sorted, copies, or_default, or_default_number, indexed_at, replace_at, build_at, concat_at, subset_at, deleted_at, reversed_at, sorted_at}
 use Rattle.g_operations.specs.Bits.{items}
 use Rattle.g_operations.specs.Comparisons.{less}
-use Rattle.g_evaluation.specs.Conditions.{HasElements_at}
 use Rattle.g_evaluation.proofs.ProperNumbers.{proper_number, layer}
 
 -- sizes
@@ -97,8 +96,8 @@ like xs p l few types all =
     let a = layer-of_array xs p in
     let right : IsArr (record { elem = xs.elem; items = l }) = record { few = few; one_type = types; no_number = a.no_number; no_array = a.no_array } in
     let d = ap depth (type-Arr xs) ∙ depth-Arr xs.elem in
-    let s = p.shallow in
-    proper_array (record { elem = xs.elem; items = l }) right (omega arith) all
+    let s = p.spelled.shallow in
+    proper_array (record { elem = xs.elem; items = l }) right (omega arith) (spelled_elem xs p) all
 
 edited : (xs : ArrOf Value) → IsProper (value.Arr xs) → (l : List Value) → length l ≤ most → ((P : Value → Type 0) → All P xs.items → All P l) → IsProper (items xs l)
 edited xs p l few keeps = like xs p l few (keeps (λ v. type_of v ≡ xs.elem) (layer-of_array xs p).one_type) (keeps IsProper (proper_items xs p))
@@ -149,7 +148,7 @@ proper-sorted (Value-F.Nums xs) p = proper_nums _ (few_sorted _ xs.all p)
 proper-sorted (Value-F.Arr xs) p = edited xs p (sorted less xs.items) (few_sorted less xs.items (few_items xs p)) (λ P h. all_sorted P less xs.items h)
 proper-sorted _ p = proper_bool false
 
--- an element, where a listing can write the type of an array's elements
+-- an element
 
 proper_got : (t : Ty) (xs : List Value) (n : ℕ) → IsSpelled t → All IsProper xs → IsProper (or_default t (slice_get xs n))
 proper_got t [] n s h = proper-default t s
@@ -164,10 +163,10 @@ or_number : (r : Rep) (o : Option ℤ) → IsProper (or_default_number r o)
 or_number r None = proper_number r (pos 0)
 or_number r (Some n) = proper_number r n
 
-pub proper-indexed : (a : Value-F Value) (i : ℤ) → Kept a → HasElements_at a → IsProper (indexed_at a i)
-proper-indexed (Value-F.Nums xs) i p s = or_number xs.rep (element xs.all i)
-proper-indexed (Value-F.Arr xs) i p s = proper_element xs.elem xs.items (index i) s (proper_items xs p)
-proper-indexed _ i p s = proper_bool false
+pub proper-indexed : (a : Value-F Value) (i : ℤ) → Kept a → IsProper (indexed_at a i)
+proper-indexed (Value-F.Nums xs) i p = or_number xs.rep (element xs.all i)
+proper-indexed (Value-F.Arr xs) i p = proper_element xs.elem xs.items (index i) (spelled_elem xs p) (proper_items xs p)
+proper-indexed _ i p = proper_bool false
 
 -- an element that goes into an array is of the type of its elements, if that isn't one of numbers
 

@@ -15,6 +15,7 @@ use Rattle.g_types.proofs.Depths.{depth-Bool}
 use Rattle.g_values.specs.Number.{num_of}
 use Rattle.g_values.specs.Coerce.{coerced_numbers}
 use Rattle.g_values.specs.Proper.{IsProper, IsLayer, IsArr, most}
+use Rattle.g_values.specs.Spelled.{IsSpelled}
 use Rattle.g_values.specs.Value.{type_of}
 use Rattle.g_values.specs.declared.value.ArrOf.{ArrOf}
 use Rattle.g_values.specs.declared.value.Value.{Value, out-Value}
@@ -24,6 +25,7 @@ use Rattle.g_values.specs.declared.value.Value.TheFolds.{every_here-Value}
 use Rattle.g_values.specs.declared.value.Value.TheViews.{roll-Value, roll-out-Value}
 use Rattle.g_values.proofs.ProperLemmas.{proper_num, proper_bool, proper_nums}
 use Rattle.g_values.proofs.ProperParts.{proper_array}
+use Rattle.g_values.proofs.SpelledTypes.{spelled_bool}
 use Rattle.g_values.proofs.TypesOf.{type-Bool, type-Arr}
 use Rattle.g_operations.specs.Arithmetic.{arithmetic_at, combined, zipped, left, right, each_at, mapped, converted_at, pair_at, folded_at, number}
 use Rattle.g_operations.specs.Bits.{bitwise_at, inverted_at, turned, items, truth, shift_at, shifted}
@@ -116,7 +118,7 @@ truths xs a is l few all =
       no_number = a.no_number;
       no_array = a.no_array;
     } in
-    proper_array (record { elem = xs.elem; items = l }) right (omega arith) (λ k c lt. let t = all k c lt in subst IsProper (sym t.1) (proper_bool t.0))
+    proper_array (record { elem = xs.elem; items = l }) right (omega arith) (subst IsSpelled (sym e) spelled_bool) (λ k c lt. let t = all k c lt in subst IsProper (sym t.1) (proper_bool t.0))
 
 abbrev pub HasTruths : Value-F Value → Type 0
 HasTruths (Value-F.Arr xs) = is_bool xs.elem ≡ true

@@ -10,7 +10,8 @@ use Rattle.g_types.specs.declared.ty.Ty.TheOpen.{Ty-F}
 use Rattle.g_types.specs.declared.ty.Ty.TheVariants as ty
 use Rattle.g_types.specs.Same.{same_type}
 use Rattle.g_types.specs.Ty.{depth, is_num, is_num_at}
-use Rattle.g_values.specs.Proper.{IsProper, is_array}
+use Rattle.g_values.specs.Proper.{IsProper}
+use Rattle.g_values.specs.Spelled.{is_array}
 use Rattle.g_values.specs.Value.{type_of}
 use Rattle.g_values.specs.declared.primitive.Primitive.{Primitive}
 use Rattle.g_values.specs.declared.primitive.Primitive.TheVariants as op
@@ -31,7 +32,6 @@ use Rattle.g_operations.specs.Row.{another, ends}
 use Rattle.g_operations.specs.Rows.{single, is_element, is_known}
 use Rattle.g_operations.specs.Strings.{text, integer}
 use Rattle.g_operations.specs.Values.{outputs_of}
-use Rattle.g_evaluation.specs.Conditions.{HasElements}
 use Rattle.g_evaluation.proofs.ProperNumbers.{layer, proper_one, proper_two, proper_number, proper-arithmetic, proper-each, proper-converted, proper-pair, proper-folded, proper-shift, proper-bitwise, proper-inverted, has_truths}
 use Rattle.g_evaluation.proofs.ProperArrays.{kept, few_copies, proper-subset, proper-deleted, proper-reversed, proper-sorted, proper-indexed, proper-replaced, proper-built, proper-concat}
 use Rattle.g_evaluation.proofs.ProperTexts.{proper-joined, proper-part, proper-bytes, proper-text, proper-decimal, proper-told, proper-parts, proper-part_at, proper-put, proper-bundled}
@@ -90,6 +90,7 @@ filled e n p no_number no_array few =
     proper_array (record { elem = type_of e; items = copies n e })
     (record { few = few_copies n e; one_type = All-replicate (λ v. type_of v ≡ type_of e) _ e refl; no_number = no_number; no_array = no_array })
     (omega arith)
+    p.spelled
     (All-replicate IsProper _ e p)
 
 no_number : (e w : Value) (t : Ty) (m : Ty-F Ty) → e ≡ w → type_of w ≡ t → out-Ty t ≡ m → is_num_at m ≡ false → is_num (type_of e) ≡ false
@@ -111,86 +112,86 @@ bundled_few vs h = let e = length-map vs type_of in omega arith
 
 -- the law
 
-pub proper-outputs : (p : Primitive) (vs : List Value) → All IsProper vs → All HasElements vs → HasRow p vs → All IsProper (outputs_of p vs)
-proper-outputs op.Add (x ∷ y ∷ []) all s h = on_two plus x y all
-proper-outputs op.Sub (x ∷ y ∷ []) all s h = on_two minus x y all
-proper-outputs op.Mul (x ∷ y ∷ []) all s h = on_two times x y all
-proper-outputs op.Inc (x ∷ []) all s h = on_one increased x all
-proper-outputs op.Dec (x ∷ []) all s h = on_one decreased x all
-proper-outputs op.Neg (x ∷ []) all s h = on_one negated x all
-proper-outputs op.Abs (x ∷ []) all s h = on_one absolute x all
-proper-outputs op.QuotRem (x ∷ y ∷ []) all s h = proper-pair quotient remainder (out-Value x) (out-Value y)
-proper-outputs op.MaxMin (x ∷ y ∷ []) all s h = proper-pair greater lesser (out-Value x) (out-Value y)
-proper-outputs op.And (x ∷ y ∷ []) all s h = on_bits (by_bits bit_and) both x y all h
-proper-outputs op.Or (x ∷ y ∷ []) all s h = on_bits (by_bits bit_or) either x y all h
-proper-outputs op.Xor (x ∷ y ∷ []) all s h = on_bits (by_bits bit_xor) differs x y all h
-proper-outputs op.Not (x ∷ []) all s h =
+pub proper-outputs : (p : Primitive) (vs : List Value) → All IsProper vs → HasRow p vs → All IsProper (outputs_of p vs)
+proper-outputs op.Add (x ∷ y ∷ []) all h = on_two plus x y all
+proper-outputs op.Sub (x ∷ y ∷ []) all h = on_two minus x y all
+proper-outputs op.Mul (x ∷ y ∷ []) all h = on_two times x y all
+proper-outputs op.Inc (x ∷ []) all h = on_one increased x all
+proper-outputs op.Dec (x ∷ []) all h = on_one decreased x all
+proper-outputs op.Neg (x ∷ []) all h = on_one negated x all
+proper-outputs op.Abs (x ∷ []) all h = on_one absolute x all
+proper-outputs op.QuotRem (x ∷ y ∷ []) all h = proper-pair quotient remainder (out-Value x) (out-Value y)
+proper-outputs op.MaxMin (x ∷ y ∷ []) all h = proper-pair greater lesser (out-Value x) (out-Value y)
+proper-outputs op.And (x ∷ y ∷ []) all h = on_bits (by_bits bit_and) both x y all h
+proper-outputs op.Or (x ∷ y ∷ []) all h = on_bits (by_bits bit_or) either x y all h
+proper-outputs op.Xor (x ∷ y ∷ []) all h = on_bits (by_bits bit_xor) differs x y all h
+proper-outputs op.Not (x ∷ []) all h =
     let p = first x [] all in
     proper_one _ (proper-inverted (out-Value x) (layer x p) (has_truths x p (when_true (has_bits (type_of x)) (type_of x ∷ []) h)))
-proper-outputs op.Shift (x ∷ n ∷ []) all s h = proper_one _ (proper-shift (out-Value x) (out-Value n))
-proper-outputs op.ToI8 (x ∷ []) all s h = to I8 x all
-proper-outputs op.ToI16 (x ∷ []) all s h = to I16 x all
-proper-outputs op.ToI32 (x ∷ []) all s h = to I32 x all
-proper-outputs op.ToI64 (x ∷ []) all s h = to I64 x all
-proper-outputs op.ToU8 (x ∷ []) all s h = to U8 x all
-proper-outputs op.ToU16 (x ∷ []) all s h = to U16 x all
-proper-outputs op.ToU32 (x ∷ []) all s h = to U32 x all
-proper-outputs op.ToU64 (x ∷ []) all s h = to U64 x all
-proper-outputs op.BoolInt (b ∷ []) all s h = a_number I16 (truth_number (truth b))
-proper-outputs op.Eq (x ∷ y ∷ []) all s h = a_truth _
-proper-outputs op.Ne (x ∷ y ∷ []) all s h = a_truth _
-proper-outputs op.Lt (x ∷ y ∷ []) all s h = a_truth _
-proper-outputs op.Le (x ∷ y ∷ []) all s h = a_truth _
-proper-outputs op.Gt (x ∷ y ∷ []) all s h = a_truth _
-proper-outputs op.Ge (x ∷ y ∷ []) all s h = a_truth _
-proper-outputs op.Select (c ∷ t ∷ f ∷ []) all s h = proper_one _ (selected c t f (second c t (f ∷ []) all) (third c t f [] all))
-proper-outputs op.All (a ∷ []) all s h = a_truth _
-proper-outputs op.Any (a ∷ []) all s h = a_truth _
-proper-outputs op.ArraySize (a ∷ []) all s h = a_number I32 (pos (length_at (out-Value a)))
-proper-outputs op.IndexArray (a ∷ i ∷ []) all s h = proper_one _ (proper-indexed (out-Value a) (number_of i) (kept a (first a (i ∷ []) all)) (All-head HasElements a (i ∷ []) s))
-proper-outputs op.Replace (a ∷ i ∷ e ∷ []) all s h =
+proper-outputs op.Shift (x ∷ n ∷ []) all h = proper_one _ (proper-shift (out-Value x) (out-Value n))
+proper-outputs op.ToI8 (x ∷ []) all h = to I8 x all
+proper-outputs op.ToI16 (x ∷ []) all h = to I16 x all
+proper-outputs op.ToI32 (x ∷ []) all h = to I32 x all
+proper-outputs op.ToI64 (x ∷ []) all h = to I64 x all
+proper-outputs op.ToU8 (x ∷ []) all h = to U8 x all
+proper-outputs op.ToU16 (x ∷ []) all h = to U16 x all
+proper-outputs op.ToU32 (x ∷ []) all h = to U32 x all
+proper-outputs op.ToU64 (x ∷ []) all h = to U64 x all
+proper-outputs op.BoolInt (b ∷ []) all h = a_number I16 (truth_number (truth b))
+proper-outputs op.Eq (x ∷ y ∷ []) all h = a_truth _
+proper-outputs op.Ne (x ∷ y ∷ []) all h = a_truth _
+proper-outputs op.Lt (x ∷ y ∷ []) all h = a_truth _
+proper-outputs op.Le (x ∷ y ∷ []) all h = a_truth _
+proper-outputs op.Gt (x ∷ y ∷ []) all h = a_truth _
+proper-outputs op.Ge (x ∷ y ∷ []) all h = a_truth _
+proper-outputs op.Select (c ∷ t ∷ f ∷ []) all h = proper_one _ (selected c t f (second c t (f ∷ []) all) (third c t f [] all))
+proper-outputs op.All (a ∷ []) all h = a_truth _
+proper-outputs op.Any (a ∷ []) all h = a_truth _
+proper-outputs op.ArraySize (a ∷ []) all h = a_number I32 (pos (length_at (out-Value a)))
+proper-outputs op.IndexArray (a ∷ i ∷ []) all h = proper_one _ (proper-indexed (out-Value a) (number_of i) (kept a (first a (i ∷ []) all)))
+proper-outputs op.Replace (a ∷ i ∷ e ∷ []) all h =
     let p = first a (i ∷ e ∷ []) all in
     let b = given_true (is_array (type_of a)) _ (type_of i ∷ type_of e ∷ []) h in
     let c = given_true (is_num (type_of i)) _ (type_of e ∷ []) b.1 in
     let d = when_true (is_assignable_to (type_of e) (item (type_of a))) _ c.1 in
     proper_one _ (proper-replaced (out-Value a) (number_of i) e (kept a p) (fits a e p d) (third a i e [] all))
-proper-outputs op.Build (a ∷ e ∷ []) all s h =
+proper-outputs op.Build (a ∷ e ∷ []) all h =
     let p = first a (e ∷ []) all in
     let b = given_true (is_array (type_of a)) _ (type_of e ∷ []) h in
     let d = when_true (is_assignable_to (type_of e) (item (type_of a))) _ b.1 in
     proper_one _ (proper-built (out-Value a) e (kept a p) (fits a e p d) (second a e [] all))
-proper-outputs op.Concat (a ∷ b ∷ []) all s h =
+proper-outputs op.Concat (a ∷ b ∷ []) all h =
     let c = given_true (is_array (type_of a)) _ (type_of b ∷ []) h in
     let d = when_true (same_type (type_of a) (type_of b)) _ c.1 in
     proper_one _ (proper-concat (out-Value a) (out-Value b) (kept a (first a (b ∷ []) all)) (kept b (second a b [] all)) (same_elements a b d))
-proper-outputs op.Initialize (e ∷ n ∷ []) all s h =
+proper-outputs op.Initialize (e ∷ n ∷ []) all h =
     let b = given_true (is_element (type_of e)) _ (type_of n ∷ []) h in
     let d = element_is (type_of e) b.0 in
     proper_one _ (initialized e (out-Value e) (number_of n) refl (first e (n ∷ []) all) d.0 d.1)
-proper-outputs op.Subset (a ∷ i ∷ n ∷ []) all s h = proper_one _ (proper-subset (out-Value a) (number_of i) (number_of n) (kept a (first a (i ∷ n ∷ []) all)))
-proper-outputs op.Delete (a ∷ i ∷ n ∷ []) all s h =
+proper-outputs op.Subset (a ∷ i ∷ n ∷ []) all h = proper_one _ (proper-subset (out-Value a) (number_of i) (number_of n) (kept a (first a (i ∷ n ∷ []) all)))
+proper-outputs op.Delete (a ∷ i ∷ n ∷ []) all h =
     let k = kept a (first a (i ∷ n ∷ []) all) in
     proper_two _ _ (proper-deleted (out-Value a) (number_of i) (number_of n) k) (proper-subset (out-Value a) (number_of i) (number_of n) k)
-proper-outputs op.Reverse (a ∷ []) all s h = proper_one _ (proper-reversed (out-Value a) (kept a (first a [] all)))
-proper-outputs op.Sort (a ∷ []) all s h = proper_one _ (proper-sorted (out-Value a) (kept a (first a [] all)))
-proper-outputs op.Sum (a ∷ []) all s h = proper_one _ (proper-folded plus (pos 0) (out-Value a))
-proper-outputs op.Product (a ∷ []) all s h = proper_one _ (proper-folded times (pos 1) (out-Value a))
-proper-outputs op.Search (a ∷ e ∷ []) all s h = a_number I32 (searched_at (out-Value a) e)
-proper-outputs op.StrLen (x ∷ []) all s h = a_number I32 (pos (length (text x)))
-proper-outputs op.StrConcat (x ∷ y ∷ []) all s h = proper_one _ (proper-joined (text x) (text y))
-proper-outputs op.StrSubset (x ∷ i ∷ n ∷ []) all s h = proper_one _ (proper-part (out-Value x) (number_of i) (number_of n) (kept x (first x (i ∷ n ∷ []) all)))
-proper-outputs op.StrBytes (x ∷ []) all s h = proper_one _ (proper-bytes (out-Value x) (kept x (first x [] all)))
-proper-outputs op.BytesStr (a ∷ []) all s h = proper_one _ (proper-text (out-Value a) (kept a (first a [] all)))
-proper-outputs op.NumStr (x ∷ []) all s h = proper_one _ (proper-decimal (out-Value x))
-proper-outputs op.StrNum (x ∷ []) all s h = proper-told (integer (text x))
-proper-outputs op.Bundle (v ∷ vs) all s h =
+proper-outputs op.Reverse (a ∷ []) all h = proper_one _ (proper-reversed (out-Value a) (kept a (first a [] all)))
+proper-outputs op.Sort (a ∷ []) all h = proper_one _ (proper-sorted (out-Value a) (kept a (first a [] all)))
+proper-outputs op.Sum (a ∷ []) all h = proper_one _ (proper-folded plus (pos 0) (out-Value a))
+proper-outputs op.Product (a ∷ []) all h = proper_one _ (proper-folded times (pos 1) (out-Value a))
+proper-outputs op.Search (a ∷ e ∷ []) all h = a_number I32 (searched_at (out-Value a) e)
+proper-outputs op.StrLen (x ∷ []) all h = a_number I32 (pos (length (text x)))
+proper-outputs op.StrConcat (x ∷ y ∷ []) all h = proper_one _ (proper-joined (text x) (text y))
+proper-outputs op.StrSubset (x ∷ i ∷ n ∷ []) all h = proper_one _ (proper-part (out-Value x) (number_of i) (number_of n) (kept x (first x (i ∷ n ∷ []) all)))
+proper-outputs op.StrBytes (x ∷ []) all h = proper_one _ (proper-bytes (out-Value x) (kept x (first x [] all)))
+proper-outputs op.BytesStr (a ∷ []) all h = proper_one _ (proper-text (out-Value a) (kept a (first a [] all)))
+proper-outputs op.NumStr (x ∷ []) all h = proper_one _ (proper-decimal (out-Value x))
+proper-outputs op.StrNum (x ∷ []) all h = proper-told (integer (text x))
+proper-outputs op.Bundle (v ∷ vs) all h =
     let b = bundle_is (type_of v) (map type_of vs) (λ ts. ty.Cluster ts ∷ []) h in
     proper_one _ (proper-bundled v vs all (bundled_few (v ∷ vs) b.few) b.shallow)
-proper-outputs op.Bundle [] all s h = absurd cc
-proper-outputs op.Unbundle (c ∷ []) all s h = proper-parts (out-Value c) (kept c (first c [] all))
-proper-outputs (op.Get k) (c ∷ []) all s h = proper_one _ (proper-part_at _ k (proper-parts (out-Value c) (kept c (first c [] all))))
-proper-outputs (op.Set k) (c ∷ e ∷ []) all s h =
+proper-outputs op.Bundle [] all h = absurd cc
+proper-outputs op.Unbundle (c ∷ []) all h = proper-parts (out-Value c) (kept c (first c [] all))
+proper-outputs (op.Get k) (c ∷ []) all h = proper_one _ (proper-part_at _ k (proper-parts (out-Value c) (kept c (first c [] all))))
+proper-outputs (op.Set k) (c ∷ e ∷ []) all h =
     let b = given_true (is_known (part k (type_of c))) _ (type_of e ∷ []) h in
     let d = when_true (is_assignable_to (type_of e) (part k (type_of c))) _ b.1 in
     proper_one _ (proper-put c k e (kept c (first c (e ∷ []) all)) (second c e [] all) d)
-proper-outputs _ _ all s h = All-nil IsProper
+proper-outputs _ _ all h = All-nil IsProper

@@ -157,7 +157,7 @@ put_cluster vs k e p q h =
     let few = c.few in
     let some = c.some in
     let same : type_of (value.Cluster (set vs k w)) ≡ type_of (value.Cluster vs) = type-Cluster (set vs k w) ∙ ap ty.Cluster (r.1 o.of_type) ∙ sym (type-Cluster vs) in
-    proper_cluster (set vs k w) (record { some = omega arith; few = omega arith }) (subst (λ u. depth u ≤ 8) (sym same) p.shallow) (All-set IsProper vs k w o.proper (proper_parts vs p))
+    proper_cluster (set vs k w) (record { some = omega arith; few = omega arith }) (subst (λ u. depth u ≤ 8) (sym same) p.spelled.shallow) (All-set IsProper vs k w o.proper (proper_parts vs p))
 
 no_part : (a w : Value) (t : Ty) (m : Ty-F Ty) (k : ℕ) (u : Ty) → a ≡ w → type_of w ≡ t → out-Ty t ≡ m → is_assignable_to u (part_of k (types_at m)) ≡ false → is_assignable_to u (part k (type_of a)) ≡ true → true ≡ false
 no_part a w t m k u e f g h i = sym i ∙ ap (λ z. is_assignable_to u (part k z)) (ap type_of e ∙ f) ∙ ap (λ z. is_assignable_to u (part_of k (types_at z))) g ∙ h

@@ -9,7 +9,8 @@ use Rattle.g_types.specs.declared.ty.Ty.TheVariants as ty
 use Rattle.g_types.specs.Same.{same_type}
 use Rattle.g_types.specs.Ty.{depth, is_num, is_num_at, is_nums, is_nums_at}
 use Rattle.g_types.proofs.SameLemmas.{same_type-true}
-use Rattle.g_values.specs.Proper.{IsProper, IsLayer, is_array, is_array_at}
+use Rattle.g_values.specs.Proper.{IsProper, IsLayer}
+use Rattle.g_values.specs.Spelled.{is_array, is_array_at}
 use Rattle.g_values.specs.Value.{type_of}
 use Rattle.g_values.specs.declared.value.Value.{Value, out-Value}
 use Rattle.g_values.specs.declared.value.Value.TheOpen.{Value-F}

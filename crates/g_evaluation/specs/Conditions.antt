@@ -1,9 +1,7 @@
 -- What is asked of inputs.
 use Rattle.std.specs.Prelude.{List, [], ◌∷◌}
 use Rattle.g_edits.specs.Texts.{IsSortable}
-use Rattle.g_values.specs.Spelled.{IsSpelled}
-use Rattle.g_values.specs.declared.value.Value.{Value, out-Value}
-use Rattle.g_values.specs.declared.value.Value.TheOpen.{Value-F}
+use Rattle.g_values.specs.declared.value.Value.{Value}
 use Rattle.g_values.specs.declared.primitive.Primitive.{Primitive}
 use Rattle.g_values.specs.declared.primitive.Primitive.TheVariants as op
 
@@ -15,11 +13,3 @@ IsInOrder _ x = Unit {0}
 abbrev pub AreInOrder : Primitive → List Value → Type 0
 AreInOrder p (x ∷ []) = IsInOrder p x
 AreInOrder p _ = Unit {0}
-
--- a listing can write the type of an array's elements
-abbrev pub HasElements_at : Value-F Value → Type 0
-HasElements_at (Value-F.Arr xs) = IsSpelled xs.elem
-HasElements_at _ = Unit {0}
-
-abbrev pub HasElements : Value → Type 0
-HasElements v = HasElements_at (out-Value v)

@@ -1,8 +1,6 @@
 //! The values that each primitive gives.
 
 ghost use Rattle.std.specs.Prelude.{◌≡◌, IfOk};
-ghost use Rattle.std.specs.List.{All};
-ghost use Rattle.g_evaluation.specs.Conditions.{HasElements};
 ghost use Rattle.g_operations.specs.Conditions.{HasRow};
 ghost use Rattle.g_operations.specs.Values.{outputs_of};
 
@@ -14,8 +12,7 @@ use std::alloc::{AllocError, Global};
 /// and only want of memory refuses it. It copies what the operation takes: it is the plain program,
 /// independent of the kernels that work in a buffer.
 pub fn apply(alloc: Global, primitive: &Primitive, ins: &ValueList) -> Result<ValueList, AllocError>
-    requires row { HasRow primitive.now ins.now }
-    requires elements { All HasElements ins.now }
+    requires { HasRow primitive.now ins.now }
     ensures { IfOk result (λ outs. outs ≡ outputs_of primitive.now ins.now) }
 {
     let outs = evaluate(alloc, primitive, ins.as_slice())?;

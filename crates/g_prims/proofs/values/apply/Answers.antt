@@ -1,7 +1,6 @@
 use Rattle.std.proofs.Common.{subst, sym}
 use Rattle.std.specs.List.{All}
 use Rattle.g_evaluation.proofs.ProperOutputs.{proper-outputs}
-use Rattle.g_evaluation.specs.Conditions.{HasElements}
 use Rattle.g_operations.specs.Conditions.{HasRow}
 use Rattle.g_values.specs.Proper.{IsProper}
 use Rattle.g_prims.proofs.values.apply.Goals as goal
@@ -11,6 +10,5 @@ from_list-requires c =
     let p = c.args.primitive.now in
     let vs = c.as_slice.result.now in
     let same = sym c.as_slice.ensures.value in
-    let row = subst (HasRow p) same c.requires.row in
-    let elements = subst (All HasElements) same c.requires.elements in
-    subst (All IsProper) (sym c.in_ok-outs.ensures) (proper-outputs p vs c.as_slice.ensures.proper elements row)
+    let row = subst (HasRow p) same c.requires in
+    subst (All IsProper) (sym c.in_ok-outs.ensures) (proper-outputs p vs c.as_slice.ensures.proper row)
