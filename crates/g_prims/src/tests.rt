@@ -1,8 +1,8 @@
-//! Rows that are there and rows that aren't, with ample memory.
+//! Rows that are there and rows that aren't, and the values of some, with ample memory.
 
-use crate::{RowRefused, type_row};
+use crate::{RowRefused, apply, type_row};
 use g_types::{Bytes, Rep, Ty, TyList, type_text};
-use g_values::Primitive;
+use g_values::{Num, Primitive, Value, ValueList, types_of};
 use std::alloc::{AllocError, Global};
 use std::test::Fail;
 
@@ -35,5 +35,48 @@ fn rows_of_two_inputs(rt: HostRuntime) -> Result<(), Fail> {
     assert_eq!(rt; second.as_slice(), b"second".as_slice());
     let bundled = told(alloc, &Primitive::Bundle, Ty::Str, Ty::Bool)?;
     assert_eq!(rt; bundled.as_slice(), b"{{str, bool}}".as_slice());
+    Ok(())
+}
+
+/// The values for two numbers, if their types have a row.
+fn of_numbers(
+    alloc: Global,
+    primitive: &Primitive,
+    x: Num,
+    y: Num,
+) -> Result<ValueList, AllocError> {
+    let mut ins = ValueList::new(alloc);
+    ins.push(Value::Num(x))?;
+    ins.push(Value::Num(y))?;
+    let types = types_of(alloc, ins.as_slice())?;
+    match type_row(alloc, primitive, &types) {
+        Ok(_) => apply(alloc, primitive, &ins),
+        Err(_) => Err(AllocError),
+    }
+}
+
+fn number_at(values: &[Value], at: usize) -> Option<i128> {
+    match values.get(at) {
+        Some(Value::Num(x)) => Some(x.n),
+        _ => None,
+    }
+}
+
+#[test]
+fn values_of_two_numbers(rt: HostRuntime) -> Result<(), Fail> {
+    let alloc = rt.alloc();
+    let minus_seven = Num::wrapped(Rep::I32, -7);
+    let two = Num::wrapped(Rep::I32, 2);
+    let divided = of_numbers(alloc, &Primitive::QuotRem, minus_seven, two)?;
+    assert_eq!(rt; number_at(divided.as_slice(), 0), Some(-4));
+    assert_eq!(rt; number_at(divided.as_slice(), 1), Some(1));
+    let minus_one = Num::wrapped(Rep::I8, -1);
+    let moved = of_numbers(
+        alloc,
+        &Primitive::Shift,
+        minus_one,
+        Num::wrapped(Rep::I32, -1),
+    )?;
+    assert_eq!(rt; number_at(moved.as_slice(), 0), Some(127));
     Ok(())
 }
