@@ -70,6 +70,14 @@ fn values_of_two_numbers(rt: HostRuntime) -> Result<(), Fail> {
     let divided = of_numbers(alloc, &Primitive::QuotRem, minus_seven, two)?;
     assert_eq!(rt; number_at(divided.as_slice(), 0), Some(-4));
     assert_eq!(rt; number_at(divided.as_slice(), 1), Some(1));
+    let zero = Num::wrapped(Rep::I32, 0);
+    let undivided = of_numbers(alloc, &Primitive::QuotRem, two, zero)?;
+    assert_eq!(rt; number_at(undivided.as_slice(), 0), Some(0));
+    assert_eq!(rt; number_at(undivided.as_slice(), 1), Some(2));
+    let one = Num::wrapped(Rep::U32, 1);
+    let ordered = of_numbers(alloc, &Primitive::MaxMin, minus_seven, one)?;
+    assert_eq!(rt; number_at(ordered.as_slice(), 0), Some(4_294_967_289));
+    assert_eq!(rt; number_at(ordered.as_slice(), 1), Some(1));
     let minus_one = Num::wrapped(Rep::I8, -1);
     let moved = of_numbers(
         alloc,
