@@ -1,0 +1,10 @@
+pub mod Numbers
+pub mod Calls
+pub mod SettlingSteps
+pub mod SettlingEnds
+pub mod Vertices
+pub mod CallsBack
+pub mod WalkBack
+pub mod HeldCalls
+pub mod Walks
+pub mod Names

@@ -1,0 +1,158 @@
+-- The walk along the calls, with its stack: the next data space is the last on it.
+use Rattle.std.proofs.Common.{◌≡◌, ℕ, zero, suc, ◌+◌, ◌-◌, ◌<◌, ◌≤◌, Bool, true, false, ◌||◌, ◌&&◌, ◌==◌, cond, List, [], ◌∷◌, ◌++◌, reverse, length, get_or, take, drop, refl, sym, ap, ◌∙◌, arith, append_assoc}
+use Rattle.std.specs.Prelude.{slice_get, Some, None, Option, if◌then◌else◌}
+use Rattle.std.specs.Option.{option_cmp}
+use Rattle.std.specs.declared.cmp.Ordering.{Ordering}
+use Rattle.std.specs.declared.cmp.Ordering.TheVariants.{Less, Equal, Greater}
+use Rattle.std.specs.Ordering.{is_eq, ordering_then, nat_cmp}
+use Rattle.std.specs.Cmp.{unsigned_tied}
+use Rattle.std.specs.BTreeSet.{BTreeSet, contains, Updates}
+use Rattle.std.proofs.lemmas.List.{reverse-append, reverse-reverse}
+use Rattle.std.proofs.lemmas.List.Folds.{list_any-append}
+use Rattle.std.proofs.lemmas.Option.{slice_get_past}
+use Rattle.g_diagram.specs.declared.hierarchy.System.{System}
+use Rattle.g_hier.specs.declared.linked.CallLine.{CallLine}
+use Rattle.g_hier.specs.declared.linked.Caller.{Caller}
+use Rattle.g_hier.specs.declared.linked.Outline.{Outline}
+use Rattle.g_hier.specs.declared.linked.Placed.{Placed}
+use Rattle.g_hier.specs.declared.linked.Space.{Space}
+use Rattle.g_hier.specs.Outlines.{calls_at}
+use Rattle.g_hier.specs.LinkOrder.{same_caller, same_space, has_met, placed_by, entered_by, unmet, enter, next, steps, main_placed, start, has_vi, with_vi, vis_after}
+use Rattle.g_hier.specs.Walking.{caller_cmp, space_cmp, pool_placed}
+
+-- equal data spaces
+is_eq-then : (r o : Ordering) → is_eq (ordering_then r o) ≡ (is_eq r && is_eq o)
+is_eq-then Less o = refl
+is_eq-then Equal o = refl
+is_eq-then Greater o = refl
+
+both : (a b c d : Bool) → a ≡ c → b ≡ d → (a && b) ≡ (c && d)
+both a b c d p q = ap (λ x. x && b) p ∙ ap (λ y. c && y) q
+
+caller_same : (a b : Option Caller) → is_eq (option_cmp caller_cmp a b) ≡ same_caller a b
+caller_same None None = refl
+caller_same None (Some b) = refl
+caller_same (Some a) None = refl
+caller_same (Some a) (Some b) = is_eq-then (nat_cmp a.space b.space) (nat_cmp a.line b.line) ∙ both _ _ _ _ (unsigned_tied a.space b.space) (unsigned_tied a.line b.line)
+
+pub space_same : (a b : Space) → is_eq (space_cmp a b) ≡ same_space a b
+space_same a b =
+    is_eq-then (nat_cmp a.vi b.vi) (ordering_then (nat_cmp a.clone b.clone) (option_cmp caller_cmp a.caller b.caller))
+    ∙ both _ _ _ _ (unsigned_tied a.vi b.vi)
+    (is_eq-then (nat_cmp a.clone b.clone) (option_cmp caller_cmp a.caller b.caller) ∙ both _ _ _ _ (unsigned_tied a.clone b.clone) (caller_same a.caller b.caller))
+
+cond_or : (a b : Bool) → cond a true b ≡ (b || (a || false))
+cond_or true true = refl
+cond_or true false = refl
+cond_or false true = refl
+cond_or false false = refl
+
+-- one more data space was met
+pub met_more : (met : List Placed) (p : Placed) (s t : BTreeSet Space) → Updates space_cmp s t p.space true → ((q : Space) → contains space_cmp s q ≡ has_met met q)
+    → (q : Space) → contains space_cmp t q ≡ has_met (met ++ p ∷ []) q
+met_more met p s t u h q =
+    u.0 q
+    ∙ cond_or (is_eq (space_cmp p.space q)) (contains space_cmp s q)
+    ∙ ap (λ b. b || (is_eq (space_cmp p.space q) || false)) (h q)
+    ∙ ap (λ b. has_met met q || (b || false)) (space_same p.space q)
+    ∙ sym (list_any-append (λ (r : Placed). same_space r.space q) met (p ∷ []))
+
+pub unmet_same : (f g : Space → Bool) → ((s : Space) → f s ≡ g s) → (ps : List Placed) → unmet f ps ≡ unmet g ps
+unmet_same f g same [] = refl
+unmet_same f g same (p ∷ ps) =
+    ap (λ b. if b then unmet f ps else p ∷ ps) (same p.space) ∙ ap (λ rest. if g p.space then rest else p ∷ ps) (unmet_same f g same ps)
+
+-- a stack, from its top
+pub reverse_push : (xs : List Placed) (p : Placed) → reverse (xs ++ p ∷ []) ≡ p ∷ reverse xs
+reverse_push xs p = reverse-append xs (p ∷ [])
+
+pub unmet_drop : (f : Space → Bool) (xs ys : List Placed) (p : Placed) → xs ≡ ys ++ p ∷ [] → f p.space ≡ true → unmet f (reverse xs) ≡ unmet f (reverse ys)
+unmet_drop f xs ys p e h = ap (λ zs. unmet f (reverse zs)) e ∙ ap (unmet f) (reverse_push ys p) ∙ ap (λ b. if b then unmet f (reverse ys) else p ∷ reverse ys) h
+
+pub unmet_take : (f : Space → Bool) (xs ys : List Placed) (p : Placed) → xs ≡ ys ++ p ∷ [] → f p.space ≡ false → unmet f (reverse xs) ≡ p ∷ reverse ys
+unmet_take f xs ys p e h = ap (λ zs. unmet f (reverse zs)) e ∙ ap (unmet f) (reverse_push ys p) ∙ ap (λ b. if b then unmet f (reverse ys) else p ∷ reverse ys) h
+
+pub unmet_none : (f : Space → Bool) (xs : List Placed) → length xs ≡ 0 → unmet f (reverse xs) ≡ []
+unmet_none f [] e = refl
+unmet_none f (x ∷ xs) e = absurd (omega (arith, e))
+
+-- what is stacked before stands below
+pub stack_more : (old mid new a b : List Placed) → mid ≡ old ++ reverse b → new ≡ mid ++ reverse a → new ≡ old ++ reverse (a ++ b)
+stack_more old mid new a b e f =
+    f ∙ ap (λ m. m ++ reverse a) e ∙ append_assoc old (reverse b) (reverse a) ∙ ap (λ r. old ++ r) (sym (reverse-append a b))
+
+-- one more clone of a pool, from the last on
+pub pool_more : (vi count done : ℕ) (system : System) → done < count
+    → pool_placed vi (count - (done + 1)) (done + 1) system ≡ record { space = record { vi = vi; clone = count - 1 - done; caller = None }; system = system } ∷ pool_placed vi (count - done) done system
+pool_more vi count done system lt =
+    let e : done + 1 ≡ suc done = omega arith in
+    let f : count - (done + 1) ≡ count - 1 - done = omega arith in
+    let g : suc (count - 1 - done) ≡ count - done = omega arith in
+    ap (λ n. pool_placed vi (count - (done + 1)) n system) e
+    ∙ ap (λ n. pool_placed vi n (suc done) system) f
+    ∙ ap (λ n. record { space = record { vi = vi; clone = count - 1 - done; caller = None }; system = system } ∷ pool_placed vi n done system) g
+
+-- one more call line, from the last on
+pub calls_more_from : (os : List Outline) (space : ℕ) (system : System) (cs : List CallLine) (done : ℕ) (d : CallLine) → done < length cs
+    → entered_by os space system (drop (length cs - (done + 1)) cs)
+    ≡ placed_by (slice_get os (get_or cs (length cs - 1 - done) d).vi) (get_or cs (length cs - 1 - done) d).vi (record { space = space; line = (get_or cs (length cs - 1 - done) d).line }) system
+    ++ entered_by os space system (drop (length cs - done) cs)
+calls_more_from os space system cs done d lt =
+    let f : length cs - (done + 1) ≡ length cs - 1 - done = omega arith in
+    let g : suc (length cs - 1 - done) ≡ length cs - done = omega arith in
+    ap (λ n. entered_by os space system (drop n cs)) f
+    ∙ ap (entered_by os space system) (drop_at cs (length cs - 1 - done) d (omega arith))
+    ∙ ap (λ n. placed_by (slice_get os (get_or cs (length cs - 1 - done) d).vi) (get_or cs (length cs - 1 - done) d).vi (record { space = space; line = (get_or cs (length cs - 1 - done) d).line }) system ++ entered_by os space system (drop n cs)) g
+  where
+    drop_at : (xs : List CallLine) (k : ℕ) (d : CallLine) → k < length xs → drop k xs ≡ get_or xs k d ∷ drop (suc k) xs
+    drop_at [] k d h = absurd (omega arith)
+    drop_at (x ∷ xs) zero d h = refl
+    drop_at (x ∷ xs) (suc k) d h = drop_at xs k d (omega arith)
+
+-- one step of the walk
+pub walk_more : (os : List Outline) (main n : ℕ) (met pending rest pushed : List Placed) (p : Placed)
+    → steps os n (start os main) ≡ record { met = met; pending = reverse pending }
+    → unmet (has_met met) (reverse pending) ≡ p ∷ reverse rest
+    → pushed ≡ rest ++ reverse (entered_by os (length met) p.system (calls_at os p.space.vi))
+    → steps os (n + 1) (start os main) ≡ record { met = met ++ p ∷ []; pending = reverse pushed }
+walk_more os main n met pending rest pushed p e f g =
+    let one : n + 1 ≡ suc n = omega arith in
+    let turned : reverse pushed ≡ entered_by os (length met) p.system (calls_at os p.space.vi) ++ reverse rest =
+    ap reverse g ∙ reverse-append rest (reverse (entered_by os (length met) p.system (calls_at os p.space.vi)))
+    ∙ ap (λ xs. xs ++ reverse rest) (reverse-reverse (entered_by os (length met) p.system (calls_at os p.space.vi))) in
+    ap (λ k. steps os k (start os main)) one
+    ∙ ap (next os) e
+    ∙ ap (enter os met) f
+    ∙ ap (λ xs. record { met = met ++ p ∷ []; pending = xs }) (sym turned)
+
+pub walk_end : (os : List Outline) (main n : ℕ) (met pending : List Placed)
+    → steps os n (start os main) ≡ record { met = met; pending = reverse pending }
+    → unmet (has_met met) (reverse pending) ≡ []
+    → steps os (suc n) (start os main) ≡ record { met = met; pending = [] }
+walk_end os main n met pending e f = ap (next os) e ∙ ap (enter os met) f
+
+pub walk_start : (os : List Outline) (main : ℕ) (pending : List Placed) → pending ≡ (start os main).pending → steps os 0 (start os main) ≡ record { met = []; pending = reverse pending }
+walk_start os main pending e = ap (λ ps. record { met = []; pending = ps }) (sym (ap reverse e ∙ short (slice_get os main)))
+  where
+    short : (o : Option Outline) → reverse (main_placed o main) ≡ main_placed o main
+    short None = refl
+    short (Some o) = refl
+
+-- the VIs of data spaces
+pub vi_more : (vi : ℕ) (s t : BTreeSet ℕ) (order : List ℕ) → Updates nat_cmp s t vi true → ((v : ℕ) → contains nat_cmp s v ≡ has_vi order v) → (v : ℕ) → contains nat_cmp t v ≡ has_vi (order ++ vi ∷ []) v
+vi_more vi s t order u h v =
+    u.0 v
+    ∙ cond_or (is_eq (nat_cmp vi v)) (contains nat_cmp s v)
+    ∙ ap (λ b. b || (is_eq (nat_cmp vi v) || false)) (h v)
+    ∙ ap (λ b. has_vi order v || (b || false)) (unsigned_tied vi v)
+    ∙ sym (list_any-append (λ n. n == v) order (vi ∷ []))
+
+pub vis_more : (before : List ℕ) (ps : List Placed) (i : ℕ) (d : Placed) → i < length ps → vis_after before (take (i + 1) ps) ≡ with_vi (vis_after before (take i ps)) (get_or ps i d).space.vi
+vis_more before [] i d lt = absurd (omega arith)
+vis_more before (p ∷ ps) zero d lt = refl
+vis_more before (p ∷ ps) (suc i) d lt =
+    let e : suc i + 1 ≡ suc (i + 1) = omega arith in
+    ap (λ n. vis_after before (take n (p ∷ ps))) e ∙ vis_more (with_vi before p.space.vi) ps i d (omega arith)
+
+pub absent : (os : List Outline) (i : ℕ) → length os ≤ i → slice_get os i ≡ None
+absent os i h = slice_get_past os i h

@@ -1,0 +1,10 @@
+pub mod Outlines
+pub mod Breaks
+pub mod Recursion
+pub mod Counts
+pub mod LinkOrder
+pub mod Settling
+pub mod CallGraph
+pub mod Walking
+pub mod Numbers
+pub mod Answer

@@ -1,0 +1,107 @@
+-- Data spaces and VIs in link order, and the system of each data space.
+use Rattle.std.specs.Prelude.{ℕ, zero, suc, ◌≡◌, ◌==◌, Bool, true, false, ◌&&◌, List, [], ◌∷◌, ◌++◌, map, length, if◌then◌else◌, Option, Some, None, slice_get}
+use Rattle.std.specs.List.{list_any}
+use Rattle.g_diagram.specs.declared.hierarchy.Clones.{Clones}
+use Rattle.g_diagram.specs.declared.hierarchy.Clones.TheVariants.{NonReentrant, Preallocated, Pool}
+use Rattle.g_diagram.specs.declared.hierarchy.System.{System}
+use Rattle.g_diagram.specs.declared.hierarchy.System.TheVariants.{Same, Standard}
+use Rattle.g_hier.specs.declared.linked.CallLine.{CallLine}
+use Rattle.g_hier.specs.declared.linked.Caller.{Caller}
+use Rattle.g_hier.specs.declared.linked.Linked.{Linked}
+use Rattle.g_hier.specs.declared.linked.Outline.{Outline}
+use Rattle.g_hier.specs.declared.linked.Placed.{Placed}
+use Rattle.g_hier.specs.declared.linked.Space.{Space}
+use Rattle.g_hier.specs.Outlines.{calls_at}
+
+-- `same` is the system of the caller
+abbrev pub system_for : (own caller : System) → System
+system_for Same caller = caller
+system_for own caller = own
+
+-- clones of a pool, from one on
+abbrev pub pool_spaces : (vi first n : ℕ) → List Space
+pool_spaces vi first zero = []
+pool_spaces vi first (suc n) = record { vi = vi; clone = first; caller = None } ∷ pool_spaces vi (suc first) n
+
+-- the data spaces that a call can enter, clone by clone
+abbrev pub enterable : Clones → (vi : ℕ) → Caller → List Space
+enterable NonReentrant vi caller = record { vi = vi; clone = 0; caller = None } ∷ []
+enterable Preallocated vi caller = record { vi = vi; clone = 0; caller = Some caller } ∷ []
+enterable (Pool n) vi caller = pool_spaces vi 0 n
+
+-- with their system, where the caller has a system
+abbrev pub placed_by : Option Outline → (vi : ℕ) → Caller → (system : System) → List Placed
+placed_by None vi caller system = []
+placed_by (Some o) vi caller system = map (λ s. record { space = s; system = system_for o.system system }) (enterable o.clones vi caller)
+
+-- the data spaces that the call lines of a data space can enter, line by line. The data space is named by its place in link order
+abbrev pub entered_by : List Outline → (space : ℕ) → (system : System) → List CallLine → List Placed
+entered_by os space system [] = []
+entered_by os space system (c ∷ cs) = placed_by (slice_get os c.vi) c.vi (record { space = space; line = c.line }) system ++ entered_by os space system cs
+
+abbrev pub same_caller : (a b : Option Caller) → Bool
+same_caller None None = true
+same_caller None (Some b) = false
+same_caller (Some a) None = false
+same_caller (Some a) (Some b) = (a.space == b.space) && (a.line == b.line)
+
+abbrev pub same_space : (a b : Space) → Bool
+same_space a b = (a.vi == b.vi) && ((a.clone == b.clone) && same_caller a.caller b.caller)
+
+-- whether a data space was met
+abbrev pub has_met : List Placed → Space → Bool
+has_met met s = list_any (λ p. same_space p.space s) met
+
+-- the data spaces that were met, in order, and those that are still to be entered, the next first
+pub record Order : Type 0 where
+  pub met : List Placed
+  pub pending : List Placed
+
+-- from the first on that wasn't met
+abbrev pub unmet : (is_met : Space → Bool) → List Placed → List Placed
+unmet is_met [] = []
+unmet is_met (p ∷ ps) = if is_met p.space then unmet is_met ps else p ∷ ps
+
+-- the next is met, and what its calls can enter comes before all else
+abbrev pub enter : List Outline → (met pending : List Placed) → Order
+enter os met [] = record { met = met; pending = [] }
+enter os met (p ∷ rest) = record { met = met ++ p ∷ []; pending = entered_by os (length met) p.system (calls_at os p.space.vi) ++ rest }
+
+abbrev pub next : List Outline → Order → Order
+next os s = enter os s.met (unmet (has_met s.met) s.pending)
+
+abbrev pub steps : List Outline → ℕ → Order → Order
+steps os zero s = s
+steps os (suc n) s = next os (steps os n s)
+
+-- MAIN's `same` is standard
+abbrev pub main_placed : Option Outline → (main : ℕ) → List Placed
+main_placed None main = []
+main_placed (Some o) main = record { space = record { vi = main; clone = 0; caller = None }; system = system_for o.system Standard } ∷ []
+
+abbrev pub start : List Outline → (main : ℕ) → Order
+start os main = record { met = []; pending = main_placed (slice_get os main) main }
+
+-- all data spaces that are met from MAIN's on
+abbrev pub AreInLinkOrder : List Outline → (main : ℕ) → List Placed → Type 0
+AreInLinkOrder os main met = (n : ℕ) × (steps os n (start os main) ≡ record { met = met; pending = [] })
+
+abbrev pub has_vi : List ℕ → ℕ → Bool
+has_vi order v = list_any (λ n. n == v) order
+
+abbrev pub with_vi : List ℕ → ℕ → List ℕ
+with_vi order v = if has_vi order v then order else order ++ v ∷ []
+
+-- the VIs of data spaces, each where it is first met, after others
+abbrev pub vis_after : List ℕ → List Placed → List ℕ
+vis_after order [] = order
+vis_after order (p ∷ ps) = vis_after (with_vi order p.space.vi) ps
+
+-- what is linked
+pub record IsLinked (os : List Outline) (main : ℕ) (l : Linked) : Type 0 where
+  pub met : List Placed
+  pub in_order : AreInLinkOrder os main met
+  pub main_is : l.main ≡ main
+  pub order_is : l.order ≡ vis_after [] met
+  pub spaces_are : l.spaces ≡ map (λ p. p.space) met
+  pub systems_are : l.systems ≡ map (λ p. p.system) met
