@@ -3,8 +3,10 @@ pub mod Calls
 pub mod SettlingSteps
 pub mod SettlingEnds
 pub mod Vertices
+pub mod Unique
 pub mod CallsBack
 pub mod WalkBack
 pub mod HeldCalls
 pub mod Walks
 pub mod Names
+mod Examples

@@ -1,5 +1,5 @@
 -- The walk along the calls, with its stack: the next data space is the last on it.
-use Rattle.std.proofs.Common.{◌≡◌, ℕ, zero, suc, ◌+◌, ◌-◌, ◌<◌, ◌≤◌, Bool, true, false, ◌||◌, ◌&&◌, ◌==◌, cond, List, [], ◌∷◌, ◌++◌, reverse, length, get_or, take, drop, refl, sym, ap, ◌∙◌, arith, append_assoc}
+use Rattle.std.proofs.Common.{◌≡◌, ℕ, zero, suc, ◌+◌, ◌-◌, ◌<◌, ◌≤◌, Bool, true, false, ◌||◌, ◌&&◌, ◌==◌, cond, List, [], ◌∷◌, ◌++◌, reverse, length, get_or, take, drop, refl, sym, ap, ◌∙◌, arith, append_assoc, subst}
 use Rattle.std.specs.Prelude.{slice_get, Some, None, Option, if◌then◌else◌}
 use Rattle.std.specs.Option.{option_cmp}
 use Rattle.std.specs.declared.cmp.Ordering.{Ordering}
@@ -17,8 +17,8 @@ use Rattle.g_hier.specs.declared.linked.Outline.{Outline}
 use Rattle.g_hier.specs.declared.linked.Placed.{Placed}
 use Rattle.g_hier.specs.declared.linked.Space.{Space}
 use Rattle.g_hier.specs.Outlines.{calls_at}
-use Rattle.g_hier.specs.LinkOrder.{same_caller, same_space, has_met, placed_by, entered_by, unmet, enter, next, steps, main_placed, start, has_vi, with_vi, vis_after}
-use Rattle.g_hier.specs.Walking.{caller_cmp, space_cmp, pool_placed}
+use Rattle.g_hier.specs.LinkOrder.{same_caller, same_space, has_met, placed_by, entered_by, Enters, finished, passed, entered, main_placed, AreInLinkOrder, has_vi, with_vi, vis_after}
+use Rattle.g_hier.specs.Walking.{caller_cmp, space_cmp, pool_placed, unmet, Continues}
 
 -- equal data spaces
 is_eq-then : (r o : Ordering) → is_eq (ordering_then r o) ≡ (is_eq r && is_eq o)
@@ -109,34 +109,83 @@ calls_more_from os space system cs done d lt =
     drop_at (x ∷ xs) zero d h = refl
     drop_at (x ∷ xs) (suc k) d h = drop_at xs k d (omega arith)
 
+-- what is entered in two parts
+record Parts (os : List Outline) (met first others after : List Placed) : Type 0 where
+  within : List Placed
+  enters_first : Enters os met first within
+  enters_others : Enters os within others after
+
+parts : (os : List Outline) (met first others after : List Placed) → Enters os met (first ++ others) after → Parts os met first others after
+parts os met [] others after e = record { within = met; enters_first = finished; enters_others = e }
+parts os met (p ∷ first) others after (passed h e) =
+    let m : Parts os met first others after = parts os met first others after e in
+    record { within = m.within; enters_first = passed h m.enters_first; enters_others = m.enters_others }
+parts os met (p ∷ first) others after (entered {within = within} h i e) =
+    let m : Parts os within first others after = parts os within first others after e in
+    record { within = m.within; enters_first = entered h i m.enters_first; enters_others = m.enters_others }
+
+-- those that were met are passed
+pass : (os : List Outline) (met ps after rest : List Placed) (p : Placed) → unmet (has_met met) ps ≡ p ∷ rest
+    → (has_met met p.space ≡ false → Enters os met (p ∷ rest) after) → Enters os met ps after
+pass os met [] after rest p e f = absurd cc
+pass os met (q ∷ ps) after rest p e f = choose (has_met met q.space) (λ k. pass os met ps after rest p k f) refl e
+  where
+    choose : (b : Bool) → (unmet (has_met met) ps ≡ p ∷ rest → Enters os met ps after) → has_met met q.space ≡ b → (if b then unmet (has_met met) ps else q ∷ ps) ≡ p ∷ rest → Enters os met (q ∷ ps) after
+    choose true more h k = passed h (more k)
+    choose false more h k =
+        let same : q ≡ p = cc in
+        let P : List Placed → Type 0 = λ xs. Enters os met xs after in
+        let Q : Placed → Type 0 = λ x. has_met met x.space ≡ false in
+        subst P (sym k) (f (subst Q same h))
+
+pass_all : (os : List Outline) (met ps : List Placed) → unmet (has_met met) ps ≡ [] → Enters os met ps met
+pass_all os met [] e = finished
+pass_all os met (q ∷ ps) e = choose (has_met met q.space) (pass_all os met ps) refl e
+  where
+    choose : (b : Bool) → (unmet (has_met met) ps ≡ [] → Enters os met ps met) → has_met met q.space ≡ b → (if b then unmet (has_met met) ps else q ∷ ps) ≡ [] → Enters os met (q ∷ ps) met
+    choose true more h k = passed h (more k)
+    choose false more h k = absurd cc
+
 -- one step of the walk
-pub walk_more : (os : List Outline) (main n : ℕ) (met pending rest pushed : List Placed) (p : Placed)
-    → steps os n (start os main) ≡ record { met = met; pending = reverse pending }
+pub walk_more : (os : List Outline) (main : ℕ) (met pending rest pushed : List Placed) (p : Placed)
+    → Continues os main met (reverse pending)
     → unmet (has_met met) (reverse pending) ≡ p ∷ reverse rest
     → pushed ≡ rest ++ reverse (entered_by os (length met) p.system (calls_at os p.space.vi))
-    → steps os (n + 1) (start os main) ≡ record { met = met ++ p ∷ []; pending = reverse pushed }
-walk_more os main n met pending rest pushed p e f g =
-    let one : n + 1 ≡ suc n = omega arith in
-    let turned : reverse pushed ≡ entered_by os (length met) p.system (calls_at os p.space.vi) ++ reverse rest =
-    ap reverse g ∙ reverse-append rest (reverse (entered_by os (length met) p.system (calls_at os p.space.vi)))
-    ∙ ap (λ xs. xs ++ reverse rest) (reverse-reverse (entered_by os (length met) p.system (calls_at os p.space.vi))) in
-    ap (λ k. steps os k (start os main)) one
-    ∙ ap (next os) e
-    ∙ ap (enter os met) f
-    ∙ ap (λ xs. record { met = met ++ p ∷ []; pending = xs }) (sym turned)
+    → Continues os main (met ++ p ∷ []) (reverse pushed)
+walk_more os main met pending rest pushed p e f g = λ after w.
+    let into : List Placed = entered_by os (length met) p.system (calls_at os p.space.vi) in
+    let turned : reverse pushed ≡ into ++ reverse rest =
+    ap reverse g ∙ reverse-append rest (reverse into) ∙ ap (λ xs. xs ++ reverse rest) (reverse-reverse into) in
+    let P : List Placed → Type 0 = λ xs. Enters os (met ++ p ∷ []) xs after in
+    let m : Parts os (met ++ p ∷ []) into (reverse rest) after = parts os (met ++ p ∷ []) into (reverse rest) after (subst P turned w) in
+    e after (pass os met (reverse pending) after (reverse rest) p f (λ h. entered h m.enters_first m.enters_others))
 
-pub walk_end : (os : List Outline) (main n : ℕ) (met pending : List Placed)
-    → steps os n (start os main) ≡ record { met = met; pending = reverse pending }
-    → unmet (has_met met) (reverse pending) ≡ []
-    → steps os (suc n) (start os main) ≡ record { met = met; pending = [] }
-walk_end os main n met pending e f = ap (next os) e ∙ ap (enter os met) f
+pub walk_end : (os : List Outline) (main : ℕ) (met pending : List Placed) → Continues os main met (reverse pending) → unmet (has_met met) (reverse pending) ≡ []
+    → AreInLinkOrder os main met
+walk_end os main met pending e f = e met (pass_all os met (reverse pending) f)
 
-pub walk_start : (os : List Outline) (main : ℕ) (pending : List Placed) → pending ≡ (start os main).pending → steps os 0 (start os main) ≡ record { met = []; pending = reverse pending }
-walk_start os main pending e = ap (λ ps. record { met = []; pending = ps }) (sym (ap reverse e ∙ short (slice_get os main)))
+pub walk_start : (os : List Outline) (main : ℕ) (pending : List Placed) → pending ≡ main_placed (slice_get os main) main → Continues os main [] (reverse pending)
+walk_start os main pending e = λ after w.
+    let P : List Placed → Type 0 = λ xs. Enters os [] xs after in
+    subst P (ap reverse e ∙ short (slice_get os main)) w
   where
     short : (o : Option Outline) → reverse (main_placed o main) ≡ main_placed o main
     short None = refl
     short (Some o) = refl
+
+-- there is one link order
+met_once : (os : List Outline) (met ps after : List Placed) → Enters os met ps after → (others : List Placed) → Enters os met ps others → others ≡ after
+met_once os met [] after finished others finished = refl
+met_once os met (p ∷ ps) after (passed h e) others (passed k f) = met_once os met ps after e others f
+met_once os met (p ∷ ps) after (passed h e) others (entered k j f) = absurd cc
+met_once os met (p ∷ ps) after (entered h i e) others (passed k f) = absurd cc
+met_once os met (p ∷ ps) after (entered {within = v} h i e) others (entered {within = w} k j f) =
+    let same : w ≡ v = met_once os (met ++ p ∷ []) (entered_by os (length met) p.system (calls_at os p.space.vi)) v i w j in
+    let P : List Placed → Type 0 = λ xs. Enters os xs ps others in
+    met_once os v ps after e others (subst P same f)
+
+pub one_order : (os : List Outline) (main : ℕ) (met : List Placed) → AreInLinkOrder os main met → (others : List Placed) → AreInLinkOrder os main others → others ≡ met
+one_order os main met e others f = met_once os [] (main_placed (slice_get os main) main) met e others f
 
 -- the VIs of data spaces
 pub vi_more : (vi : ℕ) (s t : BTreeSet ℕ) (order : List ℕ) → Updates nat_cmp s t vi true → ((v : ℕ) → contains nat_cmp s v ≡ has_vi order v) → (v : ℕ) → contains nat_cmp t v ≡ has_vi (order ++ vi ∷ []) v

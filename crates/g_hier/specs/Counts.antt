@@ -38,7 +38,7 @@ abbrev pub counts_for : (all : List Outline) (main : ℕ) (counts : List ℕ) (v
 counts_for all main counts vi [] = []
 counts_for all main counts vi (o ∷ os) = count_for (vi == main) o.clones (callers vi all counts) ∷ counts_for all main counts (suc vi) os
 
--- how many data spaces each VI has: counts that give themselves. Where no VI reaches itself there are no others
+-- how many data spaces each VI has: counts that give themselves
 abbrev pub AreCounts : List Outline → (main : ℕ) → (counts : List ℕ) → Type 0
 AreCounts os main counts = counts ≡ counts_for os main counts 0 os
 
@@ -48,9 +48,12 @@ nodes_in [] counts = 0
 nodes_in (o ∷ os) [] = 0
 nodes_in (o ∷ os) (n ∷ ns) = n * o.nodes + nodes_in os ns
 
--- the number of nodes after cloning
-abbrev pub IsNodeCount : List Outline → (main count : ℕ) → Type 0
-IsNodeCount os main count = (counts : List ℕ) × AreCounts os main counts × (count ≡ nodes_in os counts)
+-- the number of nodes after cloning, by the only counts that there are
+pub record IsNodeCount (os : List Outline) (main count : ℕ) : Type 0 where
+  pub counts : List ℕ
+  pub are : AreCounts os main counts
+  pub only : (others : List ℕ) → AreCounts os main others → others ≡ counts
+  pub count_is : count ≡ nodes_in os counts
 
 -- more than these are too many
 abbrev pub most_nodes : ℕ

@@ -52,39 +52,25 @@ same_space a b = (a.vi == b.vi) && ((a.clone == b.clone) && same_caller a.caller
 abbrev pub has_met : List Placed → Space → Bool
 has_met met s = list_any (λ p. same_space p.space s) met
 
--- the data spaces that were met, in order, and those that are still to be entered, the next first
-pub record Order : Type 0 where
-  pub met : List Placed
-  pub pending : List Placed
-
--- from the first on that wasn't met
-abbrev pub unmet : (is_met : Space → Bool) → List Placed → List Placed
-unmet is_met [] = []
-unmet is_met (p ∷ ps) = if is_met p.space then unmet is_met ps else p ∷ ps
-
--- the next is met, and what its calls can enter comes before all else
-abbrev pub enter : List Outline → (met pending : List Placed) → Order
-enter os met [] = record { met = met; pending = [] }
-enter os met (p ∷ rest) = record { met = met ++ p ∷ []; pending = entered_by os (length met) p.system (calls_at os p.space.vi) ++ rest }
-
-abbrev pub next : List Outline → Order → Order
-next os s = enter os s.met (unmet (has_met s.met) s.pending)
-
-abbrev pub steps : List Outline → ℕ → Order → Order
-steps os zero s = s
-steps os (suc n) s = next os (steps os n s)
+-- Some data spaces are met, then others are entered in turn, and after that these are met, in order.
+pub data Enters (os : List Outline) : (met spaces after : List Placed) → Type 0 where
+  -- no other is left
+  finished : {met : List Placed} → Enters os met [] met
+  -- the next was met: it isn't entered again
+  passed : {met spaces after : List Placed} {next : Placed} → has_met met next.space ≡ true → Enters os met spaces after → Enters os met (next ∷ spaces) after
+  -- the next wasn't met: it is met now, and before the others those are entered that its call lines can enter, line by line and clone by clone
+  entered : {met within spaces after : List Placed} {next : Placed} → has_met met next.space ≡ false
+      → Enters os (met ++ next ∷ []) (entered_by os (length met) next.system (calls_at os next.space.vi)) within
+      → Enters os within spaces after → Enters os met (next ∷ spaces) after
 
 -- MAIN's `same` is standard
 abbrev pub main_placed : Option Outline → (main : ℕ) → List Placed
 main_placed None main = []
 main_placed (Some o) main = record { space = record { vi = main; clone = 0; caller = None }; system = system_for o.system Standard } ∷ []
 
-abbrev pub start : List Outline → (main : ℕ) → Order
-start os main = record { met = []; pending = main_placed (slice_get os main) main }
-
--- all data spaces that are met from MAIN's on
+-- the data spaces that are met where MAIN's is entered
 abbrev pub AreInLinkOrder : List Outline → (main : ℕ) → List Placed → Type 0
-AreInLinkOrder os main met = (n : ℕ) × (steps os n (start os main) ≡ record { met = met; pending = [] })
+AreInLinkOrder os main met = Enters os [] (main_placed (slice_get os main) main) met
 
 abbrev pub has_vi : List ℕ → ℕ → Bool
 has_vi order v = list_any (λ n. n == v) order
@@ -101,6 +87,8 @@ vis_after order (p ∷ ps) = vis_after (with_vi order p.space.vi) ps
 pub record IsLinked (os : List Outline) (main : ℕ) (l : Linked) : Type 0 where
   pub met : List Placed
   pub in_order : AreInLinkOrder os main met
+  -- there is one order
+  pub only : (others : List Placed) → AreInLinkOrder os main others → others ≡ met
   pub main_is : l.main ≡ main
   pub order_is : l.order ≡ vis_after [] met
   pub spaces_are : l.spaces ≡ map (λ p. p.space) met

@@ -32,6 +32,7 @@ pub enum LinkRefused {
 }
 
 /// The data spaces in link order, with the VIs in theirs.
+#[tactic(auto, using(crate::proofs::Walks::one_order))]
 fn linked(alloc: Global, outlines: &[Outline], main: u32) -> Result<Linked, AllocError>
     ensures { IfOk result (λ l. IsLinked outlines.now main l) }
 {

@@ -5,8 +5,8 @@ ghost use Rattle.std.specs.BTreeSet.{BTreeSet as TheSet, contains};
 ghost use Rattle.std.specs.Ordering.{nat_cmp};
 ghost use Rattle.g_hier.specs.declared.linked.Space.{Space as TheSpace};
 ghost use Rattle.g_hier.specs.Outlines.{AreKnown, calls_at};
-ghost use Rattle.g_hier.specs.LinkOrder.{system_for, placed_by, entered_by, has_met, unmet, start, AreInLinkOrder, with_vi, has_vi, vis_after};
-ghost use Rattle.g_hier.specs.Walking.{space_cmp, pool_placed};
+ghost use Rattle.g_hier.specs.LinkOrder.{system_for, placed_by, entered_by, main_placed, AreInLinkOrder, with_vi, has_vi, vis_after};
+ghost use Rattle.g_hier.specs.Walking.{space_cmp, pool_placed, unmet};
 
 use crate::counts::outline_at;
 use crate::linked::{CallLine, Caller, Outline, Placed, Space};
@@ -176,7 +176,7 @@ fn next_unmet(met: &BTreeSet<Space>, pending: &mut Vec<Placed>) -> Option<Placed
 
 /// What is to be entered first.
 fn start_of(alloc: Global, outlines: &[Outline], main: u32) -> Result<Vec<Placed>, AllocError>
-    ensures { IfOk result (λ pending. pending.items ≡ (start outlines.now main).pending) }
+    ensures { IfOk result (λ pending. pending.items ≡ main_placed (slice_get outlines.now main) main) }
 {
     let mut pending = Vec::new(alloc);
     if let Some(outline) = outlines.get(main as usize) {

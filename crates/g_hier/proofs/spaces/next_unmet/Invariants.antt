@@ -1,6 +1,6 @@
 use Rattle.std.proofs.Common.{◌≡◌, reverse, length}
 use Rattle.std.specs.BTreeSet.{contains}
-use Rattle.g_hier.specs.LinkOrder.{unmet}
+use Rattle.g_hier.specs.Walking.{unmet}
 use Rattle.g_hier.specs.Walking.{space_cmp}
 use Rattle.g_hier.proofs.spaces.next_unmet.Given as goal
 

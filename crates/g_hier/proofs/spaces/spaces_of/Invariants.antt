@@ -1,13 +1,13 @@
 use Rattle.std.proofs.Common.{◌≡◌, reverse, length}
 use Rattle.std.specs.BTreeSet.{contains}
 use Rattle.g_hier.specs.declared.linked.Space.{Space}
-use Rattle.g_hier.specs.LinkOrder.{has_met, steps, start}
-use Rattle.g_hier.specs.Walking.{space_cmp}
+use Rattle.g_hier.specs.LinkOrder.{has_met}
+use Rattle.g_hier.specs.Walking.{space_cmp, Continues}
 use Rattle.g_hier.proofs.spaces.spaces_of.Given as goal
 
 abbrev pub invariant-loop-turn : goal.invariant-loop-turn
 invariant-loop-turn l = record {
-  walked : steps l.outlines l._turn (start l.outlines l.main) ≡ record { met = l.met.items; pending = reverse l.pending.items };
+  walked : Continues l.outlines l.main l.met.items (reverse l.pending.items);
   seen : (s : Space) → contains space_cmp l.seen s ≡ has_met l.met.items s;
   long : length l.met.items ≡ l._turn;
 }
