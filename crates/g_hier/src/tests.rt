@@ -1,34 +1,36 @@
 //! Small hierarchies, linked.
 
-use crate::linked::{Caller, Linked, Space};
+use crate::linked::Linked;
 use crate::linking::{LinkRefused, can_link, link};
-use g_diagram::{Break, Clones, Diagram, Hierarchy, Node, Place, System, Vi};
+use g_diagram::{Break, Clones, Diagram, Hierarchy, Node, System, Vi};
 use g_lists::List;
 use g_types::Name;
 use std::alloc::{AllocError, Global};
 use std::test::Fail;
 
-/// A VI without a panel that has these calls, from line 1 on.
+/// A VI whose name is a letter, with these calls from line 1 on.
 fn vi(
     alloc: Global,
-    name: &[u8],
+    name: u8,
     clones: Clones,
     system: System,
-    calls: &[&[u8]],
+    calls: &[u8],
 ) -> Result<Vi, AllocError> {
     let mut nodes: Vec<Node> = Vec::new(alloc);
     for called in calls {
+        let vi = List::from_slice(alloc, &[*called])?;
         nodes.push(Node::Call {
-            vi: List::from_slice(alloc, *called)?,
+            vi,
             inputs: List::new(alloc),
             outputs: List::new(alloc),
         })?;
     }
+    let name = List::from_slice(alloc, &[name])?;
     let top = Diagram {
         nodes: List::from_vec(nodes),
     };
     Ok(Vi {
-        name: List::from_slice(alloc, name)?,
+        name,
         clones,
         system,
         panel: List::new(alloc),
@@ -36,154 +38,149 @@ fn vi(
     })
 }
 
-/// What linking answers, where the hierarchy can be linked.
-fn linked(alloc: Global, vis: Vec<Vi>) -> Result<Option<Result<Linked, LinkRefused>>, AllocError> {
-    let h = Hierarchy {
-        vis: List::from_vec(vis),
-    };
-    let main: Name = List::from_slice(alloc, b"Main")?;
-    if !can_link(alloc, &h, &main)? {
-        return Ok(None);
-    }
-    Ok(Some(link(alloc, &h, &main)))
-}
-
-fn own(vi: u32, clone: u8) -> Space {
-    Space {
-        vi,
-        clone,
-        caller: None,
+/// A letter of clones: `n`onreentrant, `p`reallocated, or the number of a pool.
+fn clones_of(letter: u8) -> Clones {
+    match letter {
+        b'n' => Clones::NonReentrant,
+        b'p' => Clones::Preallocated,
+        digit => Clones::Pool(digit.wrapping_sub(b'0')),
     }
 }
 
-fn of(vi: u32, space: usize, line: u32) -> Space {
-    Space {
-        vi,
-        clone: 0,
-        caller: Some(Caller { space, line }),
+/// A letter of a system: `u`i, `d`aq or `s`ame.
+fn system_of(letter: u8) -> System {
+    match letter {
+        b'u' => System::Ui,
+        b'd' => System::Daq,
+        _ => System::Same,
     }
 }
 
-/// Main calls A and B; A calls the pool P; B calls P, and C twice. P's and C's `same` is that of the first
-/// call.
-#[test]
-fn data_spaces_stand_in_link_order(rt: HostRuntime) -> Result<(), Fail> {
-    let alloc = rt.alloc();
+/// VIs that are each written by the letters of their names, clones, systems and calls.
+fn vis_of(alloc: Global, lines: &[&[u8]]) -> Result<Vec<Vi>, AllocError> {
     let mut vis = Vec::new(alloc);
-    vis.push(vi(alloc, b"C", Clones::NonReentrant, System::Same, &[])?)?;
-    vis.push(vi(alloc, b"P", Clones::Pool(2), System::Same, &[])?)?;
-    vis.push(vi(
-        alloc,
-        b"B",
-        Clones::Preallocated,
-        System::Same,
-        &[b"P", b"C", b"C"],
-    )?)?;
-    vis.push(vi(alloc, b"A", Clones::Preallocated, System::Daq, &[b"P"])?)?;
-    vis.push(vi(alloc, b"Main", Clones::Pool(3), System::Same, &[b"A", b"B"])?)?;
-    vis.push(vi(alloc, b"Apart", Clones::NonReentrant, System::Ui, &[b"A"])?)?;
-    match linked(alloc, vis)? {
-        Some(Ok(l)) => {
-            assert_eq!(rt; l.main, 4);
-            assert_eq!(rt; l.order.as_slice(), [4, 3, 1, 2, 0].as_slice());
-            assert_eq!(rt;
-                l.spaces.as_slice(),
-                [
-                    own(4, 0),
-                    of(3, 0, 1),
-                    own(1, 0),
-                    own(1, 1),
-                    of(2, 0, 2),
-                    own(0, 0)
-                ]
-                .as_slice()
-            );
-            let daq = System::Daq;
-            let standard = System::Standard;
-            assert_eq!(rt;
-                l.systems.as_slice(),
-                [standard, daq, daq, daq, standard, standard].as_slice()
-            );
+    for line in lines {
+        match *line {
+            [name, clones, system, calls @ ..] => vis.push(vi(
+                alloc,
+                *name,
+                clones_of(*clones),
+                system_of(*system),
+                calls,
+            )?)?,
+            _ => return Err(AllocError),
         }
-        _ => assert!(rt; false),
-    }
-    Ok(())
-}
-
-/// Main calls A, A and B call each other, and Apart, which Main doesn't reach, calls itself twice.
-#[test]
-fn all_recursions_are_told(rt: HostRuntime) -> Result<(), Fail> {
-    let alloc = rt.alloc();
-    let mut vis = Vec::new(alloc);
-    vis.push(vi(alloc, b"Main", Clones::NonReentrant, System::Same, &[b"A"])?)?;
-    vis.push(vi(
-        alloc,
-        b"A",
-        Clones::NonReentrant,
-        System::Same,
-        &[b"C", b"B"],
-    )?)?;
-    vis.push(vi(alloc, b"B", Clones::NonReentrant, System::Same, &[b"A"])?)?;
-    vis.push(vi(alloc, b"C", Clones::NonReentrant, System::Same, &[])?)?;
-    vis.push(vi(
-        alloc,
-        b"Apart",
-        Clones::NonReentrant,
-        System::Same,
-        &[b"Apart", b"Main", b"Apart"],
-    )?)?;
-    match linked(alloc, vis)? {
-        Some(Err(LinkRefused::Recursive(breaks))) => {
-            let mut want: Vec<Break> = Vec::new(alloc);
-            for (vi, line) in [(1, 2), (2, 1), (4, 1), (4, 3)] {
-                want.push(Break {
-                    place: Place {
-                        vi,
-                        line,
-                        operand: 0,
-                    },
-                    rule: 19,
-                })?;
-            }
-            assert_eq!(rt; breaks.as_slice(), want.as_slice());
-        }
-        _ => assert!(rt; false),
-    }
-    Ok(())
-}
-
-/// A chain of VIs, each of which calls the next twice, with a clone for each call.
-fn chain(alloc: Global, length: u8) -> Result<Vec<Vi>, AllocError> {
-    let mut vis = Vec::new(alloc);
-    for k in 0..length {
-        let name = [b'A'.wrapping_add(k)];
-        let next = [b'A'.wrapping_add(k).wrapping_add(1)];
-        let own: &[u8] = if k == 0 { b"Main" } else { name.as_slice() };
-        let twice = [next.as_slice(), next.as_slice()];
-        let calls: &[&[u8]] = if k.wrapping_add(1) < length {
-            twice.as_slice()
-        } else {
-            &[]
-        };
-        vis.push(vi(alloc, own, Clones::Preallocated, System::Same, calls)?)?;
     }
     Ok(vis)
 }
 
-/// The number of nodes for which a chain is refused.
-fn told(alloc: Global, length: u8) -> Result<Option<u64>, AllocError> {
-    match linked(alloc, chain(alloc, length)?)? {
-        Some(Err(LinkRefused::TooLarge(nodes))) => Ok(Some(nodes)),
-        _ => Ok(None),
+/// The VI and line of each break, or that one has another operand or rule.
+fn breaks_text(alloc: Global, breaks: &[Break]) -> Result<String, AllocError> {
+    let mut text = format!(in alloc; "recursive")?;
+    for item in breaks {
+        let at = item.place;
+        let whole = at.operand == 0 && item.rule == 19;
+        let one = if whole {
+            format!(in alloc; " {}:{}", at.vi, at.line)?
+        } else {
+            format!(in alloc; " another")?
+        };
+        text.push_str(one.as_str())?;
+    }
+    Ok(text)
+}
+
+/// MAIN, the VIs, and of each data space its VI, clone, the data space and line of its call, and system.
+fn order_text(alloc: Global, linked: &Linked) -> Result<String, AllocError> {
+    let mut text = format!(in alloc; "main {} vis", linked.main)?;
+    for vi in linked.order.as_slice() {
+        let one = format!(in alloc; " {}", *vi)?;
+        text.push_str(one.as_str())?;
+    }
+    for (space, system) in linked
+        .spaces
+        .as_slice()
+        .iter()
+        .zip(linked.systems.as_slice())
+    {
+        let one = match space.caller {
+            None => format!(in alloc; ", {}.{} {:?}", space.vi, space.clone, *system)?,
+            Some(caller) => format!(in alloc;
+                ", {} at {}:{} {:?}",
+                space.vi, caller.space, caller.line, *system
+            )?,
+        };
+        text.push_str(one.as_str())?;
+    }
+    Ok(text)
+}
+
+/// What linking from M answers.
+fn told(alloc: Global, vis: Vec<Vi>) -> Result<String, AllocError> {
+    let h = Hierarchy {
+        vis: List::from_vec(vis),
+    };
+    let main: Name = List::from_slice(alloc, b"M")?;
+    if !can_link(alloc, &h, &main)? {
+        return format!(in alloc; "unknown");
+    }
+    match link(alloc, &h, &main) {
+        Ok(linked) => order_text(alloc, &linked),
+        Err(LinkRefused::Recursive(breaks)) => breaks_text(alloc, breaks.as_slice()),
+        Err(LinkRefused::TooLarge(nodes)) => format!(in alloc; "{nodes} nodes"),
+        Err(LinkRefused::Memory(failed)) => Err(failed),
     }
 }
 
-/// 2 + 4 + .. nodes, twice as many for each VI but the last.
+/// M calls A and B, A calls the pool P, and B calls P, and C twice. The `same` of P and C is that of the first
+/// call. Then recursions, those that M doesn't reach too; a call of no VI, and no M.
+const CASES: [(&[&[u8]], &str); 4] = [
+    (
+        &[b"Cns", b"P2s", b"BpsPCC", b"ApdP", b"M3sAB", b"UnuA"],
+        "main 4 vis 4 3 1 2 0, 4.0 Standard, 3 at 0:1 Daq, 1.0 Daq, 1.1 Daq, 2 at 0:2 Standard, 0.0 Standard",
+    ),
+    (
+        &[b"MnsA", b"AnsCB", b"BnsA", b"Cns", b"UnsUMU"],
+        "recursive 1:2 2:1 4:1 4:3",
+    ),
+    (&[b"MnsX"], "unknown"),
+    (&[b"Ans"], "unknown"),
+];
+
+/// VIs from M on that each call the next twice, with a clone for each call.
+fn chain(alloc: Global, length: u8) -> Result<Vec<Vi>, AllocError> {
+    let mut vis = Vec::new(alloc);
+    for k in 1..length {
+        let next = b'M'.wrapping_add(k);
+        vis.push(vi(
+            alloc,
+            next.wrapping_sub(1),
+            Clones::Preallocated,
+            System::Same,
+            &[next, next],
+        )?)?;
+    }
+    vis.push(vi(
+        alloc,
+        b'M'.wrapping_add(length).wrapping_sub(1),
+        Clones::Preallocated,
+        System::Same,
+        &[],
+    )?)?;
+    Ok(vis)
+}
+
+/// In a chain of n VIs there are 2^n - 2 nodes after cloning.
 #[test]
-fn nodes_after_cloning_are_counted(rt: HostRuntime) -> Result<(), Fail> {
+fn small_hierarchies_are_linked(rt: HostRuntime) -> Result<(), Fail> {
     let alloc = rt.alloc();
-    assert_eq!(rt; told(alloc, 13)?, None);
-    assert_eq!(rt; told(alloc, 17)?, Some(131_070));
-    assert_eq!(rt; told(alloc, 70)?, Some(9_223_372_036_854_775_808));
+    for (lines, want) in &CASES {
+        let text = told(alloc, vis_of(alloc, *lines)?)?;
+        assert_eq!(rt; text.as_str(), *want);
+    }
+    for (length, want) in [(17, "131070 nodes"), (70, "9223372036854775808 nodes")] {
+        let text = told(alloc, chain(alloc, length)?)?;
+        assert_eq!(rt; text.as_str(), want);
+    }
     Ok(())
 }
