@@ -9,4 +9,5 @@ pub mod WalkBack
 pub mod HeldCalls
 pub mod Walks
 pub mod Names
+pub mod Known
 mod Examples
