@@ -9,5 +9,6 @@ pub mod WalkBack
 pub mod HeldCalls
 pub mod Walks
 pub mod Names
+pub mod Reached
 pub mod Known
 mod Examples

@@ -1,11 +1,11 @@
 -- What `link` answers.
-use Rattle.std.specs.Prelude.{ℕ, ◌≡◌, ◌<◌, ◌≤◌, List, length}
+use Rattle.std.specs.Prelude.{ℕ, ◌≡◌, ◌<◌, ◌≤◌, List, length, ◌↔◌, IsTrue, All}
 use Rattle.g_hier.specs.declared.linked.Linked.{Linked}
 use Rattle.g_hier.specs.declared.linked.Outline.{Outline}
 use Rattle.g_hier.specs.Breaks.{ListsEach}
 use Rattle.g_hier.specs.Counts.{IsNodeCount, most_nodes, told}
-use Rattle.g_hier.specs.LinkOrder.{IsLinked}
-use Rattle.g_hier.specs.Recursion.{IsRecursion, HasNoRecursion}
+use Rattle.g_hier.specs.LinkOrder.{IsLinked, HasSpaces, has_vi}
+use Rattle.g_hier.specs.Recursion.{IsRecursion, HasNoRecursion, Reaches}
 use Rattle.g_hier.specs.declared.linking.LinkRefused.{LinkRefused}
 use Rattle.g_hier.specs.declared.linking.LinkRefused.TheVariants.{Recursive, TooLarge, Memory}
 
@@ -16,6 +16,8 @@ pub record Links (os : List Outline) (main : ℕ) (l : Linked) : Type 0 where
   pub counted : IsNodeCount os main count
   pub few : count ≤ most_nodes
   pub linked : IsLinked os main l
+  -- the VIs are those that MAIN reaches
+  pub reached : All (λ o. HasSpaces o.clones) os → (v : ℕ) → IsTrue (has_vi l.order v) ↔ Reaches os main v
 
 -- no VI leads back to itself, and they are too many: how many
 pub record IsTooLarge (os : List Outline) (main told_count : ℕ) : Type 0 where

@@ -1,5 +1,5 @@
 -- Data spaces and VIs in link order, and the system of each data space.
-use Rattle.std.specs.Prelude.{ℕ, zero, suc, ◌≡◌, ◌==◌, Bool, true, false, ◌&&◌, List, [], ◌∷◌, ◌++◌, map, length, if◌then◌else◌, Option, Some, None, slice_get}
+use Rattle.std.specs.Prelude.{ℕ, zero, suc, ◌≡◌, ◌<◌, ◌==◌, Bool, true, false, ◌&&◌, List, [], ◌∷◌, ◌++◌, map, length, if◌then◌else◌, Option, Some, None, slice_get}
 use Rattle.std.specs.List.{list_any}
 use Rattle.g_diagram.specs.declared.hierarchy.Clones.{Clones}
 use Rattle.g_diagram.specs.declared.hierarchy.Clones.TheVariants.{NonReentrant, Preallocated, Pool}
@@ -28,6 +28,11 @@ abbrev pub enterable : Clones → (vi : ℕ) → Caller → List Space
 enterable NonReentrant vi caller = record { vi = vi; clone = 0; caller = None } ∷ []
 enterable Preallocated vi caller = record { vi = vi; clone = 0; caller = Some caller } ∷ []
 enterable (Pool n) vi caller = pool_spaces vi 0 n
+
+-- there is one: a pool has at least one clone
+abbrev pub HasSpaces : Clones → Type 0
+HasSpaces (Pool n) = 0 < n
+HasSpaces other = Unit {0}
 
 -- with their system, where the caller has a system
 abbrev pub placed_by : Option Outline → (vi : ℕ) → Caller → (system : System) → List Placed

@@ -54,7 +54,8 @@ fn judge(
     outlines: &[Outline],
     main: u32,
 ) -> Result<Result<Linked, LinkRefused>, AllocError>
-    requires { AreKnown outlines.now }
+    requires known { AreKnown outlines.now }
+    requires main { main < length outlines.now }
     ensures { IfOk result (λ answer. MatchResult answer (Links outlines.now main) (Refuses outlines.now main)) }
 {
     let breaks = recursions_of(alloc, outlines)?;
@@ -75,7 +76,8 @@ fn attempt<'a>(
     h: &'a Hierarchy,
     main: &'a Name,
 ) -> Result<Result<Linked, LinkRefused>, AllocError>
-    requires { AreKnown (spec.outlines_of h.now) }
+    requires known { AreKnown (spec.outlines_of h.now) }
+    requires main { spec.number_of h.now.vis main.now < length h.now.vis }
     ensures { IfOk result (λ answer. MatchResult answer (Links (spec.outlines_of h.now) (spec.number_of h.now.vis main.now)) (Refuses (spec.outlines_of h.now) (spec.number_of h.now.vis main.now))) }
 {
     let vis = h.vis.as_slice();

@@ -1,8 +1,12 @@
-use Rattle.std.proofs.Common.{◌≡◌, ◌<◌, ◌≤◌, ℕ, List, refl, sym, subst, arith}
+use Rattle.std.proofs.Common.{◌≡◌, ◌<◌, ◌≤◌, ℕ, List, true, refl, sym, subst, arith}
 use Rattle.g_hier.specs.Counts.{told, nodes_in}
 use Rattle.g_hier.specs.Settling.{AreTold}
 use Rattle.g_hier.proofs.CallsBack.{acyclic, none_there}
 use Rattle.g_hier.proofs.Unique.{counts_only}
+use Rattle.g_hier.specs.Recursion.{Reaches}
+use Rattle.g_hier.specs.LinkOrder.{has_vi}
+use Rattle.g_hier.proofs.Reached.{reached}
+use Rattle.std.specs.Prelude.{◌↔◌}
 use Rattle.g_hier.proofs.linking.judge.Goals as goal
 
 pub count_spaces-requires-clause-ends : goal.count_spaces-requires-clause-ends
@@ -44,4 +48,8 @@ returns c =
       };
       few = let low : c.node_count-nodes.result ≤ 65536 = omega arith in omega (arith, e, low);
       linked = c.in_ok-linked.ensures;
+      reached = λ some v.
+          let l = c.in_ok-linked.ensures in
+          let Q : List ℕ → Type 0 = λ order. (has_vi order v ≡ true) ↔ Reaches c.args.outlines.now c.args.main v in
+          subst Q (sym l.order_is) (reached c.args.outlines.now c.args.main c.requires.known c.requires.main some l.met l.in_order v);
     }
