@@ -241,6 +241,7 @@ fn only_part(alloc: Global, kept: Value) -> Value
     }
 }
 
+/// As `act_on`, which adds that the value is proper.
 fn acted(
     alloc: Global,
     primitive: &Primitive,
