@@ -1,0 +1,6 @@
+pub mod ActLemmas
+pub mod Conversions
+pub mod LaneLemmas
+pub mod Loops
+pub mod RowLengths
+pub mod TestLemmas

@@ -1,0 +1,11 @@
+use Rattle.std.proofs.Common.{ap, ◌∙◌, arith, set}
+use Rattle.std.proofs.lemmas.List.Edits.{map_over_more}
+use Rattle.g_edits.specs.Words.{on_truths}
+use Rattle.g_operations.specs.Bits.{truth}
+use Rattle.g_values.specs.declared.value.Value.TheVariants as value
+use Rattle.g_arrays.proofs.bits.right_truths.Goals as goal
+
+pub loop-at-preserved : goal.loop-at-preserved
+loop-at-preserved c =
+    ap (λ b. set c.loop-at.items.items c.loop-at.at (value.Bool b)) (c.combined_truth-b.ensures ∙ ap (on_truths c.args.operator c.args.by) c.is_true.ensures)
+    ∙ map_over_more (λ y. value.Bool (on_truths c.args.operator c.args.by (truth y))) c.args.items.now.items c.loop-at.items.items c.loop-at.at c.index.result.now (omega arith) c.loop-at.invariant c.index.ensures

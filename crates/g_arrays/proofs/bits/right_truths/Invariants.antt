@@ -1,0 +1,8 @@
+use Rattle.std.proofs.Common.{◌≡◌, ◌++◌, map, take, drop}
+use Rattle.g_operations.specs.Bits.{truth}
+use Rattle.g_edits.specs.Words.{on_truths}
+use Rattle.g_values.specs.declared.value.Value.TheVariants as value
+use Rattle.g_arrays.proofs.bits.right_truths.Given as goal
+
+abbrev pub invariant-loop-at : goal.invariant-loop-at
+invariant-loop-at l = l.items.items ≡ map (λ y. value.Bool (on_truths l.operator l.by (truth y))) (take l.at l.fn.items.items) ++ drop l.at l.fn.items.items
