@@ -1,1 +1,4 @@
+pub mod Names
 pub mod Scalars
+pub mod Views
+pub mod Parts

@@ -24,7 +24,7 @@ use Rattle.g_diagram.specs.declared.hierarchy.Clones.TheVariants.{NonReentrant}
 use Rattle.g_diagram.specs.declared.hierarchy.System.TheVariants.{Same}
 use Rattle.g_diagram.specs.declared.hierarchy.Vi.{Vi}
 use Rattle.g_diagram.specs.declared.hierarchy.Hierarchy.{Hierarchy}
-use Rattle.g_diagram.specs.Form.{are_named, panel_name, is_indicator, source_names, consumer_names}
+use Rattle.g_scalars.specs.Names.{are_named, panel_name, is_indicator, source_names, consumer_names}
 use Rattle.g_diagram.specs.Lines.{Wire}
 
 -- ---- lines

@@ -1,2 +1,7 @@
 //! Which hierarchies the machine runs today: one VI of numbers and Booleans, with `add`, `sub`, `mul` and `inc`.
 #![tactic(auto)]
+
+mod form;
+mod names;
+
+pub use form::is_number_form;
