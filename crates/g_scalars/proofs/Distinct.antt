@@ -22,8 +22,17 @@ fails_at test [] i d lt all e = omega arith
 fails_at test (k ∷ ks) zero d lt all e = let f = all.0 in cc
 fails_at test (k ∷ ks) (suc i) d lt all e = fails_at test ks i d (omega arith) all.1 e
 
-flips : (x y : List ℕ) → bytes_eq x y ≡ true → bytes_eq y x ≡ true
+pub flips : (x y : List ℕ) → bytes_eq x y ≡ true → bytes_eq y x ≡ true
 flips x y e = (bytes_eq-Decides y x).1 (sym ((bytes_eq-Decides x y).0 e))
+
+pub same_turned : (x y : List ℕ) → bytes_eq x y ≡ bytes_eq y x
+same_turned x y = by (bytes_eq x y) (bytes_eq y x) refl refl
+  where
+    by : (a b : Bool) → bytes_eq x y ≡ a → bytes_eq y x ≡ b → a ≡ b
+    by true true e f = refl
+    by false false e f = refl
+    by true false e f = sym (flips x y e) ∙ f
+    by false true e f = sym e ∙ flips y x f
 
 either_one : (a b : Bool) → (a || b) ≡ true → (a ≡ true → ⊥) → (b ≡ true → ⊥) → ⊥
 either_one true b e f g = f refl

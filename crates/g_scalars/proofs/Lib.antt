@@ -1,2 +1,5 @@
 mod Examples
 pub mod Distinct
+pub mod EdgeLemmas
+pub mod Inferring
+pub mod Along

@@ -1,5 +1,5 @@
 -- The form in two parts: its lines, and the use of names.
-use Rattle.std.specs.Prelude.{ℕ, ◌+◌, ◌≤◌, Bool, true, false, ◌&&◌, IsTrue, map, length, bytes_eq}
+use Rattle.std.specs.Prelude.{◌+◌, ◌≤◌, Bool, true, false, ◌&&◌, IsTrue, map, length, bytes_eq}
 use Rattle.std.specs.List.{list_all, list_any, count_by, IsDistinct}
 use Rattle.g_diagram.specs.declared.hierarchy.Clones.{Clones}
 use Rattle.g_diagram.specs.declared.hierarchy.Clones.TheVariants.{NonReentrant}

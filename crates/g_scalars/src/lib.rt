@@ -2,6 +2,10 @@
 #![tactic(auto)]
 
 mod form;
+mod graph;
+mod infer;
 mod names;
+mod types;
 
 pub use form::is_number_form;
+pub use infer::is_typed;
