@@ -54,12 +54,10 @@ fn infer_along<'a>(
     graph: &[Vec<usize>],
     order: &[usize],
 ) -> Result<Option<Types<'a>>, AllocError>
-    requires form { IsNumberVi vi.now }
-    requires wired { IsWired vi.now }
     requires graph { IsWireGraph vi.now.top.nodes graph.now }
     requires order { IsOrder graph.now order.now }
-    ensures none { IfOk result (λ found. IsNone found → (types : Typing) → AreTypes types vi.now → ⊥) }
-    ensures some { IfOk result (λ found. IfSome found (λ inferred. (types : Typing) → AreTypes types vi.now → AreTypes (typing_of inferred.entries) vi.now)) }
+    ensures none { IfOk result (λ found. IsNone found → IsNumberVi vi.now → IsWired vi.now → (types : Typing) → AreTypes types vi.now → ⊥) }
+    ensures some { IfOk result (λ found. IfSome found (λ inferred. IsNumberVi vi.now → IsWired vi.now → (types : Typing) → AreTypes types vi.now → AreTypes (typing_of inferred.entries) vi.now)) }
 {
     let mut types: Types<'a> = IndexMap::new(alloc);
     insert_items(alloc, &mut types, vi.panel.as_slice())?;
@@ -74,10 +72,8 @@ fn infer_along<'a>(
 
 /// The types of all wires.
 fn infer(alloc: Global, vi: &Vi) -> Result<Option<Types<'_>>, AllocError>
-    requires form { IsNumberVi vi.now }
-    requires wired { IsWired vi.now }
-    ensures none { IfOk result (λ found. IsNone found → (types : Typing) → AreTypes types vi.now → ⊥) }
-    ensures some { IfOk result (λ found. IfSome found (λ inferred. (types : Typing) → AreTypes types vi.now → AreTypes (typing_of inferred.entries) vi.now)) }
+    ensures none { IfOk result (λ found. IsNone found → IsNumberVi vi.now → IsWired vi.now → (types : Typing) → AreTypes types vi.now → ⊥) }
+    ensures some { IfOk result (λ found. IfSome found (λ inferred. IsNumberVi vi.now → IsWired vi.now → (types : Typing) → AreTypes types vi.now → AreTypes (typing_of inferred.entries) vi.now)) }
 {
     let graph = wire_graph(alloc, vi.top.nodes.as_slice())?;
     let Some(order) = order(alloc, graph.as_slice())? else {
@@ -87,12 +83,11 @@ fn infer(alloc: Global, vi: &Vi) -> Result<Option<Types<'_>>, AllocError>
 }
 
 /// Whether the wires of a VI of numbers and Booleans have types that its lines allow: constants are in the ranges of their types, operations
-/// take numbers, and what an indicator shows is assignable to its type. Each name that is taken has to have a source, and no wires may lead
-/// from a node to itself. Only want of memory is an error.
+/// take numbers, and what an indicator shows is assignable to its type. Where the VI is of the form, each name that is taken has a source and
+/// no wires lead from a node to itself, that is decided; of other VIs false says nothing. Only want of memory is an error.
 pub fn is_typed(alloc: Global, vi: &Vi) -> Result<bool, AllocError>
-    requires form { IsNumberVi vi.now }
-    requires wired { IsWired vi.now }
-    ensures { IfOk result (λ right. IsTrue right ↔ IsTyped vi.now) }
+    ensures sound { IfOk result (λ right. IsTrue right → IsTyped vi.now) }
+    ensures complete { IfOk result (λ right. IsNumberVi vi.now → IsWired vi.now → IsTyped vi.now → IsTrue right) }
 {
     let Some(types) = infer(alloc, vi)? else {
         return Ok(false);

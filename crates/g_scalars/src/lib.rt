@@ -9,3 +9,6 @@ mod types;
 
 pub use form::is_number_form;
 pub use infer::is_typed;
+
+#[cfg(test)]
+mod tests;
