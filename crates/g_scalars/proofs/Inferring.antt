@@ -92,7 +92,7 @@ items_keep : (items : List PanelItem) (f : Typing) (q : List ℕ) → is_some (f
 items_keep [] f q e = e
 items_keep (item ∷ items) f q e = items_keep items (with_item item f) q (item_keeps item f q e)
 
-or_false : (b : Bool) → (b || false) ≡ true → b ≡ true
+pub or_false : (b : Bool) → (b || false) ≡ true → b ≡ true
 or_false true e = refl
 or_false false e = e
 
@@ -103,10 +103,10 @@ item_has (Indicator name t input) f q e = absurd cc
 on_either : (ws vs : List Wire) (q : List ℕ) → on (ws ++ vs) q ≡ true → (on ws q ≡ true) ⊎ (on vs q ≡ true)
 on_either ws vs q e = or_cases (on ws q) (on vs q) (sym (list_any-append (λ w. is_on w q) ws vs) ∙ e)
 
-or_left : (a b : Bool) → a ≡ true → (a || b) ≡ true
+pub or_left : (a b : Bool) → a ≡ true → (a || b) ≡ true
 or_left a b h = ap (λ x. x || b) h
 
-or_right : (a b : Bool) → b ≡ true → (a || b) ≡ true
+pub or_right : (a b : Bool) → b ≡ true → (a || b) ≡ true
 or_right true b h = refl
 or_right false b h = h
 
@@ -139,7 +139,7 @@ inferred_start vi f none empty same = record {
 
 -- ---- the type of what a node gives
 
-bytes_itself : (q : List ℕ) → bytes_eq q q ≡ true
+pub bytes_itself : (q : List ℕ) → bytes_eq q q ≡ true
 bytes_itself q = (bytes_eq-Decides q q).1 refl
 
 abbrev pub Same : List Wire → Typing → Typing → Type 0
@@ -229,11 +229,11 @@ nodes_taken [] k q e = absurd cc
 nodes_taken (n ∷ ns) zero q e = on_left (taken_at (out-Node n)) (taken_by_nodes ns) q e
 nodes_taken (n ∷ ns) (suc k) q e = on_right (taken_at (out-Node n)) (taken_by_nodes ns) q (nodes_taken ns k q e)
 
-and_first : (a b : Bool) → (a && b) ≡ true → a ≡ true
+pub and_first : (a b : Bool) → (a && b) ≡ true → a ≡ true
 and_first true b h = refl
 and_first false b h = h
 
-and_second : (a b : Bool) → (a && b) ≡ true → b ≡ true
+pub and_second : (a b : Bool) → (a && b) ≡ true → b ≡ true
 and_second true b h = h
 and_second false b h = absurd cc
 
