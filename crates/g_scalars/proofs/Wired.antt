@@ -1,5 +1,5 @@
 -- A VI of the form whose ports all have sources and whose wires lead from no node to itself is wired.
-use Rattle.std.proofs.Common.{◌≡◌, ◌⊎◌, inl, inr, ⊎_elim, ℕ, zero, suc, ◌+◌, ◌==◌, Bool, true, false, not, ◌||◌, ◌&&◌, List, [], ◌∷◌, ◌++◌, map, filter, length, Option, Some, None, cond, refl, sym, ap, subst, ◌∙◌, arith, append_assoc}
+use Rattle.std.proofs.Common.{◌≡◌, ◌⊎◌, inl, inr, ⊎_elim, ℕ, zero, suc, ◌+◌, ◌==◌, Bool, true, false, not, ◌||◌, ◌&&◌, List, [], ◌∷◌, ◌++◌, map, filter, length, Some, None, cond, refl, sym, ap, ◌∙◌, arith, append_assoc}
 use Rattle.std.specs.Prelude.{is_some, bytes_eq, slice_get}
 use Rattle.std.specs.List.{list_all, list_any}
 use Rattle.std.proofs.lemmas.Slice.Eq.{bytes_eq-Decides}
@@ -15,16 +15,16 @@ use Rattle.g_diagram.specs.declared.node.Node.TheFolds.{fold-roll-Node}
 use Rattle.g_diagram.specs.declared.node.SequenceFrame.{SequenceFrame}
 use Rattle.g_diagram.specs.declared.hierarchy.Vi.{Vi}
 use Rattle.g_diagram.specs.Leads.{Walk, Leads}
-use Rattle.g_diagram.specs.Lines.{Wire, Lines, BranchLines, FrameLines, Entry, Kind, Const, Apply, Sequence, entry, lines_of, one_line, node_step, branch_step, diagram_step, frame_step, panel_entries, nodes_entries, entries_of}
+use Rattle.g_diagram.specs.Lines.{Wire, Lines, BranchLines, FrameLines, Entry, Kind, Const, Apply, Sequence, entry, lines_of, one_line, node_step, branch_step, diagram_step, frame_step, panel_entries, nodes_entries}
 use Rattle.g_diagram.specs.Operands.{Outside, Operand, Line, Freedom, source, consumer, in_and_out, plain_line, kind_lines, entries_lines, control_lines}
 use Rattle.g_diagram.specs.Ports.{Port, ports_from, ports_in, ports_of, freedom, sources, consumers, is_wired, same_wire, are_joined, is_node, feeds, has_wire}
 use Rattle.g_graph.proofs.Search.{or_cases, same_number}
-use Rattle.g_scalars.specs.Names.{given_by_item, taken_by_item, given_by_items, taken_by_items, given_by_nodes, taken_by_nodes, given_at, taken_at, names_on, source_names, consumer_names}
+use Rattle.g_scalars.specs.Names.{given_by_items, taken_by_items, given_by_nodes, taken_by_nodes, given_at, taken_at, source_names, consumer_names}
 use Rattle.g_scalars.specs.Scalars.{is_scalar_node, is_scalar_node_at}
-use Rattle.g_scalars.specs.Typing.{is_on, only, output_at}
+use Rattle.g_scalars.specs.Typing.{is_on, output_at}
 use Rattle.g_scalars.specs.Wiring.{IsWired, gives, gives_on, output_in, inputs_in}
 use Rattle.g_scalars.specs.Wiring as wiring
-use Rattle.g_scalars.proofs.Inferring.{on, on_left, on_right, on_names, and_first, and_second, or_left, or_right, or_false, bytes_itself}
+use Rattle.g_scalars.proofs.Inferring.{on, on_left, on_right, on_names, and_first, and_second, or_left, or_right, bytes_itself}
 
 both : (a b : Bool) → a ≡ true → b ≡ true → (a && b) ≡ true
 both true b e f = f
