@@ -4,4 +4,3 @@ pub mod Text
 pub mod Operands
 pub mod Ports
 pub mod Leads
-pub mod Form
