@@ -3,13 +3,8 @@ use Rattle.std.proofs.Common.{◌≡◌, Bool, true, false, ◌&&◌, ◌||◌, 
 use Rattle.std.proofs.lemmas.Bool.{eqb-true}
 use Rattle.std.specs.Prelude.{not, is_some, slice_get, ◌==◌, length}
 use Rattle.std.specs.List.{list_all, list_any}
-use Rattle.g_types.specs.declared.ty.Ty.{Ty, out-Ty}
-use Rattle.g_types.specs.declared.ty.Ty.TheOpen.{Ty-F}
 use Rattle.g_values.specs.declared.value.Value.{Value}
 use Rattle.g_values.specs.Coerce.{coerced}
-use Rattle.g_diagram.specs.declared.panel.Lit.{Lit}
-use Rattle.g_diagram.specs.declared.panel.Lit.TheViews.{out-Lit}
-use Rattle.g_diagram.specs.declared.panel.Lit.TheOpen.{Lit-F}
 use Rattle.g_diagram.specs.Lines.{Wire, Entry, Kind, Const, Apply, Shows, entry}
 use Rattle.g_operations.specs.Values.{outputs_of}
 use Rattle.g_fire.specs.declared.firing.Firing.{Firing}
@@ -22,9 +17,9 @@ use Rattle.g_fire.specs.Maps.{firings_at}
 use Rattle.g_fire.specs.Wires.{source_of, inputs_of}
 use Rattle.g_fire.specs.Program.{FlatVi, Program}
 use Rattle.g_fire.specs.State.{first_frame, frame_node, is_done}
-use Rattle.g_fire.specs.Fire.{Reader, gives, guard, reader_in, value_from, has_value, value_on, or_false, outputs_from, const_effect, literal_at, shows_in, effect, is_ready, node_effect, node_at, on_node, on_vi, on_frame, effect_of, can_fire, fire, or_same}
+use Rattle.g_fire.specs.Fire.{Reader, gives, guard, reader_in, value_from, has_value, value_on, or_false, outputs_from, const_effect, literal_value, shows_in, effect, is_ready, node_effect, node_at, on_node, on_vi, on_frame, effect_of, can_fire, fire, or_same}
 use Rattle.g_fire.specs.Run.{IsAtRest, firing, after_from, go_on}
-use Rattle.g_fire.specs.Plan.{Finder, found_input, input_on, has_input, value_of_input, literal_number_at, const_work, work_of, work_effect, step_of, step_effect, step_can, step_ready, step_fired, Ascends, IsPlan}
+use Rattle.g_fire.specs.Plan.{Finder, found_input, input_on, has_input, value_of_input, const_work, work_of, work_effect, step_of, step_effect, step_can, step_ready, step_fired, Ascends, IsPlan}
 use Rattle.g_fire.proofs.WireLemmas.{inputs-Apply}
 use Rattle.g_fire.proofs.StepLemmas.{some_is, refute}
 
@@ -72,13 +67,13 @@ module _ (s : FireState) (vi : FlatVi) (find : Finder) (finds : (name : List ℕ
   values_agree [] = refl
   values_agree (w ∷ ws) = ap (λ v. v ∷ map (value_on reader) ws) (value_agrees w) ∙ ap (λ vs. value_of_input s (input_on find w) ∷ vs) (values_agree ws)
 
-  const_agrees : (line : ℕ) (vs : List Value) (t : Ty-F Ty) (l : Lit-F Lit) → const_effect line (literal_at t l) ≡ work_effect s line vs (const_work (literal_number_at t l))
-  const_agrees line vs (Ty-F.Num r) (Lit-F.Number n) = refl
-  const_agrees line vs _ _ = refl
+  const_agrees : (line : ℕ) (vs : List Value) (o : Option Value) → const_effect line o ≡ work_effect s line vs (const_work o)
+  const_agrees line vs None = refl
+  const_agrees line vs (Some v) = refl
 
   kind_agrees : (line diagram : ℕ) (kind : Kind) (fired : List Fired)
       → effect s first_frame line reader kind fired ≡ work_effect s line (map (value_of_input s) (map (input_on find) (inputs_of (entry line diagram kind)))) (work_of kind)
-  kind_agrees line d (Const t l out) fired = const_agrees line _ (out-Ty t) (out-Lit l)
+  kind_agrees line d (Const t l out) fired = const_agrees line _ (literal_value t l)
   kind_agrees line d (Apply op ins outs) fired =
       ap (λ vs. Some (gives Once (outputs_from line (length ins + 1) (outputs_of op vs))))
       (values_agree ins ∙ ap (λ ws. map (value_of_input s) (map (input_on find) ws)) (sym (inputs-Apply line d op ins outs)))

@@ -31,7 +31,7 @@ use Rattle.g_fire.proofs.Bridge.{can_at, map_at}
 use Rattle.g_fire.proofs.PlanLemmas.{is_plan, table_of}
 use Rattle.g_fire.proofs.EndLemmas.{ended, end_is, mapped_at}
 use Rattle.g_fire.proofs.Places.{any_stands, stands_any, all_at, all_of, none_of, any_filter_is, all_filter_is, Before, none_chosen}
-use Rattle.g_fire.proofs.ShapeLemmas.{Shape, constant, sum, shown, kind_of, taken, given_operand, Vertex, entry_of, vertices, Takes, takes, Gives, node_gives}
+use Rattle.g_fire.proofs.ShapeLemmas.{Shape, constant, single, sum, shown, kind_of, taken, given_operand, Vertex, entry_of, vertices, Takes, takes, Gives, node_gives}
 use Rattle.g_fire.proofs.GivenLemmas.{some_of, operand_of, Keeps, run_keeps, IsSet, counts, control_source}
 
 -- ---- names and their sources
@@ -176,6 +176,13 @@ module _ (s : FireState) (find : List ℕ → Option WireSource) (panel : is_som
       absurd (refute (sym can
       ∙ ap (λ w. is_some (guard (not (is_done s 0 l) && true) (work_effect s l [] w))) is
       ∙ ap (λ d. is_some (guard (not d && true) (work_effect s l [] (work.Give x)))) undone))
+  waits l (single op is a out) undone can =
+      record {
+        place = 0;
+        name = a;
+        at = refl;
+        missing = one_missing (is_done s 0 l) (has_input s (found_input (find a))) undone (sym (guard_is _ _ refl) ∙ can);
+      }
   waits l (sum op is a b out) undone can =
       by (two_missing (is_done s 0 l) (has_input s (found_input (find a))) (has_input s (found_input (find b))) undone (sym (guard_is _ _ refl) ∙ can))
     where
@@ -192,6 +199,7 @@ module _ (s : FireState) (find : List ℕ → Option WireSource) (panel : is_som
 
 gives_operand : (shape : Shape) (j : ℕ) → given_operand shape ≡ Some j → operand_of (work_of (kind_of shape)) ≡ Some j
 gives_operand (constant t l x is out) j h = ap operand_of is ∙ h
+gives_operand (single op is a out) j h = h
 gives_operand (sum op is a b out) j h = h
 gives_operand (shown name t w) j h = h
 

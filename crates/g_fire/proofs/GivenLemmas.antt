@@ -5,12 +5,10 @@ use Rattle.std.proofs.lemmas.List.Recursion.{is_count_by}
 use Rattle.std.specs.Prelude.{is_some, not, slice_get, slice_set, ◌==◌}
 use Rattle.std.specs.List.{list_all, list_any, count_by}
 use Rattle.g_values.specs.declared.value.Value.{Value}
-use Rattle.g_values.specs.declared.value.Value.TheVariants as value
 use Rattle.g_values.specs.declared.primitive.Primitive.{Primitive}
-use Rattle.g_values.specs.declared.primitive.Primitive.TheVariants.{Add, Sub, Mul}
 use Rattle.g_diagram.specs.declared.panel.PanelItem.{PanelItem}
 use Rattle.g_diagram.specs.declared.panel.PanelItem.TheVariants.{Control, Indicator}
-use Rattle.g_diagram.specs.Form.{is_sum, is_indicator}
+use Rattle.g_scalars.specs.Names.{is_indicator}
 use Rattle.g_diagram.specs.Operands.{Line, control_lines}
 use Rattle.g_diagram.specs.Ports.{Port, ports_in}
 use Rattle.g_operations.specs.Values.{outputs_of}
@@ -32,7 +30,7 @@ use Rattle.g_fire.specs.Run.{firing, after_from, go_on}
 use Rattle.g_fire.specs.Plan.{value_of_input, step_can, step_fired, step_plain, plain_work, work_effect, is_wired, IsPlan}
 use Rattle.g_fire.proofs.StepLemmas.{some_is, refute, and_left, and_right, both, effect_is}
 use Rattle.g_fire.proofs.Bridge.{can_at, fire_at}
-use Rattle.g_fire.proofs.RunLemmas.{plain_step, values_len, start_frames}
+use Rattle.g_fire.proofs.RunLemmas.{Given, by_one, by_two, given, plain_step, values_len, start_frames}
 use Rattle.g_fire.proofs.EndLemmas.{fire_frames}
 use Rattle.g_fire.proofs.LawLemmas.{put_stays, values_stay, choice_refused}
 
@@ -98,25 +96,17 @@ operand_of (work.Give x) = Some 1
 operand_of (work.Apply op first) = Some first
 operand_of (work.Show t) = None
 
-one_output : (op : Primitive) (vs : List Value) → is_sum op ≡ true → (length vs == 2) ≡ true → (v : Value) × (outputs_of op vs ≡ v ∷ [])
-one_output op [] sum two = absurd (refute two)
-one_output op (x ∷ []) sum two = absurd (refute two)
-one_output Add (x ∷ y ∷ []) sum two = (_, refl)
-one_output Sub (x ∷ y ∷ []) sum two = (_, refl)
-one_output Mul (x ∷ y ∷ []) sum two = (_, refl)
-one_output _ (x ∷ y ∷ []) sum two = absurd (refute sum)
-one_output op (x ∷ y ∷ z ∷ vs) sum two = absurd (three (length vs) two)
-  where
-    three : (n : ℕ) → (suc (suc (suc n)) == 2) ≡ true → ⊥
-    three n e = omega (arith, eqb-true (suc (suc (suc n))) 2 e)
+one_output : (op : Primitive) (vs : List Value) → Given op vs → (v : Value) × (outputs_of op vs ≡ v ∷ [])
+one_output op _ (by_one x v e keeps) = (v, e)
+one_output op _ (by_two x y v e keeps) = (v, e)
 
 work_gives : (s : FireState) (line : ℕ) (vs : List Value) (w : Work) (j : ℕ) → plain_work (length vs) w ≡ true → operand_of w ≡ Some j
     → is_some (value_at (terminal 0 line j) (or_same s (firing 0 line) (work_effect s line vs w)).values) ≡ true
 work_gives s line vs work.Never j plain is = absurd (refute (ap is_some is))
 work_gives s line vs (work.Give x) j plain is =
-    ap (λ k. is_some (value_at (terminal 0 line k) (put_value s.values (terminal 0 line 1) (value.Num x)))) (sym (some_is 1 j is)) ∙ put_has s.values (terminal 0 line 1) (value.Num x)
+    ap (λ k. is_some (value_at (terminal 0 line k) (put_value s.values (terminal 0 line 1) x))) (sym (some_is 1 j is)) ∙ put_has s.values (terminal 0 line 1) x
 work_gives s line vs (work.Apply op first) j plain is =
-    let v = one_output op vs (and_left (is_sum op) (length vs == 2) plain) (and_right (is_sum op) (length vs == 2) plain) in
+    let v = one_output op vs (given op vs plain) in
     ap (λ xs. is_some (value_at (terminal 0 line j) (or_same s (firing 0 line) (Some (gives Once (outputs_from line first xs)))).values)) v.1
     ∙ ap (λ k. is_some (value_at (terminal 0 line k) (put_value s.values (terminal 0 line first) v.0))) (sym (some_is first j is))
     ∙ put_has s.values (terminal 0 line first) v.0

@@ -1,13 +1,13 @@
 -- The steps are the nodes of the VI that runs, and names lead where the definitions say.
 use Rattle.std.proofs.Common.{◌≡◌, Bool, true, false, ◌&&◌, ℕ, suc, ◌+◌, ◌≤◌, List, [], ◌∷◌, ◌++◌, map, length, Option, Some, None, arith, cond, refl, ap, sym, subst, ◌∙◌}
-use Rattle.std.specs.Prelude.{is_some, slice_get, ◌==◌, bytes_eq, Ok, Err, IfOk}
+use Rattle.std.specs.Prelude.{is_some, slice_get, bytes_eq, Ok, Err, IfOk}
 use Rattle.std.specs.declared.result.Result.{Result}
 use Rattle.std.specs.List.{list_all}
 use Rattle.std.proofs.lemmas.Slice.Eq.{bytes_eq-Decides}
-use Rattle.g_types.specs.declared.rep.Rep.TheVariants.{I32}
 use Rattle.g_types.specs.declared.ty.Ty.{Ty, out-Ty}
 use Rattle.g_types.specs.declared.ty.Ty.TheOpen.{Ty-F}
 use Rattle.g_values.specs.declared.primitive.Primitive.{Primitive}
+use Rattle.g_values.specs.Number.{num_of}
 use Rattle.g_diagram.specs.declared.hierarchy.Hierarchy.{Hierarchy}
 use Rattle.g_diagram.specs.declared.hierarchy.Vi.{Vi}
 use Rattle.g_diagram.specs.declared.panel.Lit.{Lit}
@@ -22,8 +22,8 @@ use Rattle.g_diagram.specs.declared.node.Node.TheViews.{out-Node, roll-Node, rol
 use Rattle.g_diagram.specs.declared.node.Node.TheOpen.{Node-F}
 use Rattle.g_diagram.specs.declared.node.Node.TheFolds.{fold-roll-Node}
 use Rattle.g_diagram.specs.declared.node.SequenceFrame.{SequenceFrame}
-use Rattle.g_diagram.specs.Form as form
-use Rattle.g_diagram.specs.Form.{is_sum, is_number, is_plain_at, is_plain_node, are_named, IsFormVi}
+use Rattle.g_scalars.specs.Names.{are_named}
+use Rattle.g_scalars.specs.Scalars.{is_operation, is_scalar_node_at, is_scalar_node, IsNumberVi}
 use Rattle.g_diagram.specs.Lines.{Wire, Lines, BranchLines, FrameLines, Entry, Kind, Const, Apply, entry, lines_of, one_line, node_step, branch_step, diagram_step, frame_step, panel_entries, nodes_entries, entries_of}
 use Rattle.g_diagram.specs.Operands.{Outside, Operand, Freedom, source, consumer, in_and_out, plain_line, control_lines, entries_lines}
 use Rattle.g_diagram.specs.Ports.{Port, ports_from, ports_in, freedom}
@@ -32,9 +32,10 @@ use Rattle.g_fire.specs.declared.plan.Step.{Step}
 use Rattle.g_fire.specs.Names.{Table, named, add_name, add_all, given_wires, given_panel, given_at, given_nodes}
 use Rattle.g_fire.specs.Program.{flat_vi, program}
 use Rattle.g_fire.specs.Wires.{source_of, inputs_of}
-use Rattle.g_fire.specs.Plan.{Finder, input_on, found_input, is_wired, literal_number_at, const_work, plain_work, step_of, step_plain, Ascends, IsPlan}
+use Rattle.g_fire.specs.Plan.{Finder, input_on, found_input, is_wired, const_work, plain_work, step_of, step_plain, Ascends, IsPlan}
 use Rattle.g_fire.proofs.WireLemmas.{inputs-Apply}
-use Rattle.g_fire.proofs.StepLemmas.{and_left, and_right, both, refute}
+use Rattle.g_fire.specs.Fire.{literal_at}
+use Rattle.g_fire.proofs.StepLemmas.{and_left, and_right, both, refute, num_scalar, bool_scalar}
 
 abbrev or_else : Option WireSource → Option WireSource → Option WireSource
 or_else (Some s) o = Some s
@@ -116,10 +117,10 @@ module _ (q : List ℕ) where
 
 -- ---- a node of the form is one line
 
-const_plain : (t : Ty-F Ty) (l : Lit-F Lit) → form.is_i32_at t ≡ true → plain_work 0 (const_work (literal_number_at t l)) ≡ true
-const_plain (Ty-F.Num I32) (Lit-F.Number n) h = refl
-const_plain (Ty-F.Num r) (Lit-F.Number n) h = absurd (refute h)
-const_plain _ _ h = refl
+const_plain : (t : Ty-F Ty) (l : Lit-F Lit) → plain_work 0 (const_work (literal_at t l)) ≡ true
+const_plain (Ty-F.Num r) (Lit-F.Number n) = num_scalar (num_of r n)
+const_plain Ty-F.Bool (Lit-F.Truth b) = bool_scalar b
+const_plain _ _ = refl
 
 wired_found : (o : Option WireSource) → is_wired (found_input o) ≡ true
 wired_found None = refl
@@ -141,31 +142,30 @@ record IsLine (find : Finder) (n : Node-F Node Branch Diagram SequenceFrame) : T
   pub sources : (q : List ℕ) (l : ℕ) (free : Freedom) (es : List Entry)
       → source_of (ports_in (entries_lines free (entry l 0 kind ∷ es))) 0 q ≡ or_else (named (given_at l n) q) (source_of (ports_in (entries_lines free es)) 0 q)
 
-plain_apply : (op : Primitive) (find : Finder) (ins ws : List Wire) → ws ≡ ins → is_sum op ≡ true → are_named 2 ins ≡ true
-    → (is_sum op && (length (map (input_on find) ws) == 2)) && list_all is_wired (map (input_on find) ws) ≡ true
-plain_apply op find ins ws e sum two =
-    subst (λ xs. (is_sum op && (length (map (input_on find) xs) == 2)) && list_all is_wired (map (input_on find) xs) ≡ true) (sym e)
-    (both _ _
-    (both _ _ sum (ap (λ n. n == 2) (same_length (input_on find) ins) ∙ and_left (length ins == 2) (list_all is_some ins) two))
-    (all_wired find ins (and_right (length ins == 2) (list_all is_some ins) two)))
+plain_apply : (op : Primitive) (find : Finder) (ins ws : List Wire) → ws ≡ ins → is_operation op (length ins) ≡ true → list_all is_some ins ≡ true
+    → is_operation op (length (map (input_on find) ws)) && list_all is_wired (map (input_on find) ws) ≡ true
+plain_apply op find ins ws e takes some =
+    subst (λ xs. is_operation op (length (map (input_on find) xs)) && list_all is_wired (map (input_on find) xs) ≡ true) (sym e)
+    (both _ _ (ap (is_operation op) (same_length (input_on find) ins) ∙ takes) (all_wired find ins some))
 
 const_sources : (q : List ℕ) (l : ℕ) (t : Ty) (literal : Lit) (out : Wire) (free : Freedom) (es : List Entry)
     → source_of (ports_in (entries_lines free (entry l 0 (Const t literal out) ∷ es))) 0 q ≡ or_else (named (given_wires l 1 (out ∷ [])) q) (source_of (ports_in (entries_lines free es)) 0 q)
 const_sources q l t literal None free es = refl
 const_sources q l t literal (Some n) free es = one_first (bytes_eq q n) (record { line = l; operand = 1 }) None (source_of (ports_in (entries_lines free es)) 0 q) _ refl
 
-is_line : (find : Finder) (n : Node-F Node Branch Diagram SequenceFrame) → is_plain_at n ≡ true → IsLine find n
+is_line : (find : Finder) (n : Node-F Node Branch Diagram SequenceFrame) → is_scalar_node_at n ≡ true → IsLine find n
 is_line find (Node-F.Const t literal out) h = record {
   kind = Const t literal out;
   line = fold-roll-Node Lines BranchLines Lines FrameLines node_step branch_step diagram_step frame_step (Node-F.Const t literal out);
-  plain = λ l. both _ _ (const_plain (out-Ty t) (out-Lit literal) (and_left (form.is_i32 t) (is_number literal && is_some out) h)) refl;
+  plain = λ l. both _ _ (const_plain (out-Ty t) (out-Lit literal)) refl;
   sources = λ q l free es. const_sources q l t literal out free es;
 }
 is_line find (Node-F.Apply op ins outs) h = record {
   kind = Apply op ins outs;
   line = fold-roll-Node Lines BranchLines Lines FrameLines node_step branch_step diagram_step frame_step (Node-F.Apply op ins outs);
   plain = λ l. plain_apply op find ins (inputs_of (entry l 0 (Apply op ins outs))) (inputs-Apply l 0 op ins outs)
-      (and_left (is_sum op) (are_named 2 ins && are_named 1 outs) h) (and_left (are_named 2 ins) (are_named 1 outs) (and_right (is_sum op) (are_named 2 ins && are_named 1 outs) h));
+      (and_left (is_operation op (length ins)) (list_all is_some ins && are_named 1 outs) h)
+      (and_left (list_all is_some ins) (are_named 1 outs) (and_right (is_operation op (length ins)) (list_all is_some ins && are_named 1 outs) h));
   sources = λ q l free es.
       let rest = ports_in (entries_lines free es) in
       taken_first q l (Apply op ins outs) (in_and_out ins outs) rest 1 ins (map (source Outside) outs)
@@ -184,38 +184,38 @@ module _ (find : Finder) where
   panel_plain l (Indicator name t (Some w) ∷ items) es h = both _ _ (both _ _ (wired_found (find w)) refl) (panel_plain (l + 1) items es h)
 
   -- the first of some nodes, and the others
-  first_node : (n : Node) (ns : List Node) (l : ℕ) → is_plain_node n ≡ true
+  first_node : (n : Node) (ns : List Node) (l : ℕ) → is_scalar_node n ≡ true
       → (line : IsLine find (out-Node n)) × (nodes_entries (n ∷ ns) l 0 ≡ entry l 0 line.kind ∷ nodes_entries ns (l + 1) 0)
   first_node n ns l h =
       let line = is_line find (out-Node n) h in
       (line, ap (λ ls. ls.entries l 0 ++ nodes_entries ns (l + ls.count) 0) (ap lines_of (sym (roll-out-Node n)) ∙ line.line))
 
-  nodes_plain : (l : ℕ) (ns : List Node) → list_all is_plain_node ns ≡ true → list_all step_plain (map (step_of find) (nodes_entries ns l 0)) ≡ true
+  nodes_plain : (l : ℕ) (ns : List Node) → list_all is_scalar_node ns ≡ true → list_all step_plain (map (step_of find) (nodes_entries ns l 0)) ≡ true
   nodes_plain l [] h = refl
   nodes_plain l (n ∷ ns) h =
-      let first = first_node n ns l (and_left (is_plain_node n) (list_all is_plain_node ns) h) in
+      let first = first_node n ns l (and_left (is_scalar_node n) (list_all is_scalar_node ns) h) in
       subst (λ es. list_all step_plain (map (step_of find) es) ≡ true) (sym first.1)
-      (both _ _ (first.0.plain l) (nodes_plain (l + 1) ns (and_right (is_plain_node n) (list_all is_plain_node ns) h)))
+      (both _ _ (first.0.plain l) (nodes_plain (l + 1) ns (and_right (is_scalar_node n) (list_all is_scalar_node ns) h)))
 
-  nodes_sources : (q : List ℕ) (l : ℕ) (ns : List Node) (free : Freedom) → list_all is_plain_node ns ≡ true
+  nodes_sources : (q : List ℕ) (l : ℕ) (ns : List Node) (free : Freedom) → list_all is_scalar_node ns ≡ true
       → source_of (ports_in (entries_lines free (nodes_entries ns l 0))) 0 q ≡ named (given_nodes l ns) q
   nodes_sources q l [] free h = refl
   nodes_sources q l (n ∷ ns) free h =
-      let first = first_node n ns l (and_left (is_plain_node n) (list_all is_plain_node ns) h) in
+      let first = first_node n ns l (and_left (is_scalar_node n) (list_all is_scalar_node ns) h) in
       ap (λ es. source_of (ports_in (entries_lines free es)) 0 q) first.1
       ∙ first.0.sources q l free (nodes_entries ns (l + 1) 0)
-      ∙ ap (or_else (named (given_at l (out-Node n)) q)) (nodes_sources q (l + 1) ns free (and_right (is_plain_node n) (list_all is_plain_node ns) h))
+      ∙ ap (or_else (named (given_at l (out-Node n)) q)) (nodes_sources q (l + 1) ns free (and_right (is_scalar_node n) (list_all is_scalar_node ns) h))
       ∙ sym (named_append (given_at l (out-Node n)) (given_nodes (l + 1) ns) q)
 
   ascends_from : (n m : ℕ) (es : List Entry) → n ≤ m → Ascends m es → Ascends n es
   ascends_from n m [] less up = tt
   ascends_from n m (e ∷ es) less up = (omega (arith, less, up.0), up.1, up.2)
 
-  nodes_ascend : (l : ℕ) (ns : List Node) → list_all is_plain_node ns ≡ true → Ascends l (nodes_entries ns l 0)
+  nodes_ascend : (l : ℕ) (ns : List Node) → list_all is_scalar_node ns ≡ true → Ascends l (nodes_entries ns l 0)
   nodes_ascend l [] h = tt
   nodes_ascend l (n ∷ ns) h =
-      let first = first_node n ns l (and_left (is_plain_node n) (list_all is_plain_node ns) h) in
-      subst (Ascends l) (sym first.1) (omega arith, refl, nodes_ascend (l + 1) ns (and_right (is_plain_node n) (list_all is_plain_node ns) h))
+      let first = first_node n ns l (and_left (is_scalar_node n) (list_all is_scalar_node ns) h) in
+      subst (Ascends l) (sym first.1) (omega arith, refl, nodes_ascend (l + 1) ns (and_right (is_scalar_node n) (list_all is_scalar_node ns) h))
 
   panel_ascends : (l : ℕ) (items : List PanelItem) (es : List Entry) → Ascends (l + length items) es → Ascends l (panel_entries items l ++ es)
   panel_ascends l [] es up = subst (λ n. Ascends n es) (omega arith) up
@@ -230,7 +230,7 @@ module _ (find : Finder) where
 abbrev pub table_of : Vi → Table
 table_of vi = add_all (add_all [] (given_panel 1 vi.panel)) (given_nodes (length vi.panel + 1) vi.top.nodes)
 
-finds : (vi : Vi) (free : Freedom) → list_all is_plain_node vi.top.nodes ≡ true → (q : List ℕ)
+finds : (vi : Vi) (free : Freedom) → list_all is_scalar_node vi.top.nodes ≡ true → (q : List ℕ)
     → named (table_of vi) q ≡ source_of (ports_in (control_lines 1 vi.panel ++ entries_lines free (entries_of vi))) 0 q
 finds vi free plain q =
     named_add_all (add_all [] (given_panel 1 vi.panel)) (given_nodes (length vi.panel + 1) vi.top.nodes) q
@@ -240,7 +240,7 @@ finds vi free plain q =
     ∙ sym (panel_sources q 1 vi.panel free (entries_of vi)
     ∙ ap (or_else (named (given_panel 1 vi.panel) q)) (shown_sources q 1 vi.panel free (nodes_entries vi.top.nodes (1 + length vi.panel) 0)))
 
-pub is_plan : (h : Hierarchy) (vi : Vi) → h.vis ≡ vi ∷ [] → IsFormVi vi → (table : Table) → table ≡ table_of vi → (steps : List Step) → steps ≡ map (step_of (named table)) (entries_of vi)
+pub is_plan : (h : Hierarchy) (vi : Vi) → h.vis ≡ vi ∷ [] → IsNumberVi vi → (table : Table) → table ≡ table_of vi → (steps : List Step) → steps ≡ map (step_of (named table)) (entries_of vi)
     → IsPlan (program h) steps
 is_plan h vi one is table table_is steps steps_is = record {
   vi = flat_vi h.vis vi;

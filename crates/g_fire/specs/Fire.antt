@@ -70,9 +70,10 @@ value_on outer (Some name) = or_false (outer name)
 
 -- ---- what each kind of node does
 
--- the value of a literal of a type: a number of a number type. A literal of another form has no value yet
+-- the value of a literal of a type: a number of a number type, and TRUE or FALSE of bool. A literal of another form has no value yet
 abbrev pub literal_at : Ty-F Ty → Lit-F Lit → Option Value
 literal_at (Ty-F.Num r) (Lit-F.Number n) = Some (value.Num (num_of r n))
+literal_at Ty-F.Bool (Lit-F.Truth b) = Some (value.Bool b)
 literal_at _ _ = None
 
 abbrev pub literal_value : Ty → Lit → Option Value

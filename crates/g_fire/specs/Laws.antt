@@ -4,8 +4,8 @@ use Rattle.std.specs.List.{list_all, list_any}
 use Rattle.g_values.specs.declared.value.Value.{Value}
 use Rattle.g_diagram.specs.declared.hierarchy.Hierarchy.{Hierarchy}
 use Rattle.g_diagram.specs.declared.hierarchy.Vi.{Vi}
-use Rattle.g_diagram.specs.Form.{IsForm}
 use Rattle.g_diagram.specs.Leads.{Leads}
+use Rattle.g_scalars.specs.Scalars.{IsNumberForm}
 use Rattle.g_diagram.specs.Ports.{Port, ports_of, sources, consumers, is_wired, are_joined, has_wire}
 use Rattle.g_fire.specs.declared.firing.Firing.{Firing}
 use Rattle.g_fire.specs.declared.firing.FrameNode.{FrameNode}
@@ -60,5 +60,5 @@ pub record IsWellWired (ps : List Port) : Type 0 where
 -- a run of a well-wired VI never stalls: where nothing can fire, all nodes are done
 abbrev pub Finishes : Type 0
 Finishes =
-    (h : Hierarchy) (controls : List Value) (trace : List Firing) (s : FireState) → IsForm h → ((vi : Vi) → h.vis ≡ vi ∷ [] → IsWellWired (ports_of h.vis vi)) → AreControls h controls
+    (h : Hierarchy) (controls : List Value) (trace : List Firing) (s : FireState) → IsNumberForm h → ((vi : Vi) → h.vis ≡ vi ∷ [] → IsWellWired (ports_of h.vis vi)) → AreControls h controls
     → after (program h) controls trace ≡ Some s → IsAtRest (program h) s → end_of (program h) s ≡ Complete

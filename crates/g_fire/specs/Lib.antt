@@ -5,6 +5,7 @@ pub mod Program
 pub mod State
 pub mod Fire
 pub mod Cells
+pub mod Sums
 pub mod Run
 pub mod Plan
 pub mod Print

@@ -1,22 +1,14 @@
 -- What the code keeps of each node, and what its firing does by it.
 use Rattle.std.specs.Prelude.{◌≡◌, ℕ, ◌+◌, ◌≤◌, ◌==◌, Bool, true, false, ◌&&◌, not, IsTrue, ⊤, List, [], ◌∷◌, map, length, slice_get, Option, Some, None, is_some}
 use Rattle.std.specs.List.{list_all, count_by}
-use Rattle.g_types.specs.declared.rep.Rep.{Rep}
-use Rattle.g_types.specs.declared.rep.Rep.TheVariants.{I32}
-use Rattle.g_types.specs.declared.ty.Ty.{Ty, out-Ty}
-use Rattle.g_types.specs.declared.ty.Ty.TheOpen.{Ty-F}
-use Rattle.g_values.specs.declared.num.Num.{Num}
 use Rattle.g_values.specs.declared.value.Value.{Value, out-Value}
 use Rattle.g_values.specs.declared.value.Value.TheOpen.{Value-F}
 use Rattle.g_values.specs.declared.value.Value.TheVariants as value
 use Rattle.g_values.specs.Coerce.{coerced}
-use Rattle.g_values.specs.Number.{num_of}
-use Rattle.g_diagram.specs.declared.panel.Lit.{Lit}
-use Rattle.g_diagram.specs.declared.panel.Lit.TheViews.{out-Lit}
-use Rattle.g_diagram.specs.declared.panel.Lit.TheOpen.{Lit-F}
 use Rattle.g_diagram.specs.declared.hierarchy.Hierarchy.{Hierarchy}
 use Rattle.g_diagram.specs.declared.hierarchy.Vi.{Vi}
-use Rattle.g_diagram.specs.Form.{is_sum, is_indicator}
+use Rattle.g_scalars.specs.Names.{is_indicator}
+use Rattle.g_scalars.specs.Scalars.{is_operation}
 use Rattle.g_diagram.specs.Lines.{Wire, Entry, Kind, Const, Apply, Shows}
 use Rattle.g_operations.specs.Values.{outputs_of}
 use Rattle.g_fire.specs.declared.maps.Terminal.{Terminal}
@@ -31,7 +23,7 @@ use Rattle.g_fire.specs.declared.state.Fired.TheVariants.{Once}
 use Rattle.g_fire.specs.State.{is_done}
 use Rattle.g_fire.specs.Program.{FlatVi, Program, vi_in}
 use Rattle.g_fire.specs.Wires.{source_of, inputs_of}
-use Rattle.g_fire.specs.Fire.{Effect, gives, outputs_from, value_from, or_false, guard, shows_in, or_same}
+use Rattle.g_fire.specs.Fire.{Effect, literal_value, gives, outputs_from, value_from, or_false, guard, shows_in, or_same}
 use Rattle.g_fire.specs.Run.{firing}
 
 -- where names have their sources
@@ -46,20 +38,12 @@ abbrev pub input_on : Finder → Wire → Input
 input_on find None = Unwired
 input_on find (Some name) = found_input (find name)
 
--- the number of a literal of a number type
-abbrev pub literal_number_at : Ty-F Ty → Lit-F Lit → Option Num
-literal_number_at (Ty-F.Num r) (Lit-F.Number n) = Some (num_of r n)
-literal_number_at _ _ = None
-
-abbrev pub literal_number : Ty → Lit → Option Num
-literal_number t literal = literal_number_at (out-Ty t) (out-Lit literal)
-
-abbrev pub const_work : Option Num → Work
+abbrev pub const_work : Option Value → Work
 const_work None = work.Never
-const_work (Some x) = work.Give x
+const_work (Some v) = work.Give v
 
 abbrev pub work_of : Kind → Work
-work_of (Const t literal out) = const_work (literal_number t literal)
+work_of (Const t literal out) = const_work (literal_value t literal)
 work_of (Apply op inputs outputs) = work.Apply op (length inputs + 1)
 work_of (Shows name t w) = work.Show t
 work_of _ = work.Never
@@ -91,7 +75,7 @@ first_value (v ∷ vs) = v
 
 abbrev pub work_effect : FireState → (line : ℕ) → List Value → Work → Option Effect
 work_effect s line vs work.Never = None
-work_effect s line vs (work.Give x) = Some (gives Once (outputs_from line 1 (value.Num x ∷ [])))
+work_effect s line vs (work.Give v) = Some (gives Once (outputs_from line 1 (v ∷ [])))
 work_effect s line vs (work.Apply op first) = Some (gives Once (outputs_from line first (outputs_of op vs)))
 work_effect s line vs (work.Show t) = shows_in 0 line (coerced (first_value vs) t) (slice_get s.objects 0)
 
@@ -104,21 +88,19 @@ step_can s st = is_some (step_effect s st)
 abbrev pub step_fired : FireState → Step → FireState
 step_fired s st = or_same s (firing 0 st.line) (step_effect s st)
 
--- ---- the form: 32-bit sums
+-- ---- the form: numbers and Booleans
 
-abbrev pub is_i32_rep : Rep → Bool
-is_i32_rep I32 = true
-is_i32_rep _ = false
+abbrev pub is_scalar_at : Value-F Value → Bool
+is_scalar_at (Value-F.Num x) = true
+is_scalar_at (Value-F.Bool b) = true
+is_scalar_at _ = false
 
-abbrev pub is_i32_at : Value-F Value → Bool
-is_i32_at (Value-F.Num x) = is_i32_rep x.rep
-is_i32_at _ = false
+-- a number or a Boolean
+abbrev pub is_scalar : Value → Bool
+is_scalar v = is_scalar_at (out-Value v)
 
-abbrev pub is_i32 : Value → Bool
-is_i32 v = is_i32_at (out-Value v)
-
-abbrev pub are_i32 : List (Terminal × Value) → Bool
-are_i32 known = list_all (λ e. is_i32 e.1) known
+abbrev pub are_scalars : List (Terminal × Value) → Bool
+are_scalars known = list_all (λ e. is_scalar e.1) known
 
 abbrev pub is_wired : Input → Bool
 is_wired Unwired = false
@@ -127,8 +109,8 @@ is_wired (From source) = true
 
 abbrev pub plain_work : (inputs : ℕ) → Work → Bool
 plain_work n work.Never = true
-plain_work n (work.Give x) = is_i32_rep x.rep
-plain_work n (work.Apply op first) = is_sum op && (n == 2)
+plain_work n (work.Give v) = is_scalar v
+plain_work n (work.Apply op first) = is_operation op n
 plain_work n (work.Show t) = n == 1
 
 abbrev pub step_plain : Step → Bool
@@ -153,7 +135,7 @@ pub record IsPlan (p : Program) (steps : List Step) : Type 0 where
   pub ascends : Ascends 0 vi.entries
   pub plain : IsTrue (list_all step_plain steps)
 
--- a number of 32 bits for each control
+-- a number or a Boolean for each control
 pub record AreControls (h : Hierarchy) (controls : List Value) : Type 0 where
-  pub numbers : IsTrue (list_all is_i32 controls)
+  pub scalars : IsTrue (list_all is_scalar controls)
   pub each : (vi : Vi) → h.vis ≡ vi ∷ [] → length controls ≡ count_by (λ item. not (is_indicator item)) vi.panel

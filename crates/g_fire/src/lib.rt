@@ -11,10 +11,11 @@ mod print;
 mod run;
 mod start;
 mod state;
+mod sums;
 
 pub use firing::{Firing, FrameNode, Trace};
 pub use laws::run_laws;
 pub use maps::{Done, Terminal, Values, WireSource};
-pub use print::{end_at, state_text};
+pub use print::state_text;
 pub use run::{Ran, run_all};
 pub use state::{Content, End, FireState, Fired, Frame};

@@ -1,43 +1,25 @@
 //! One firing of a node of frame 0.
 
-ghost use Rattle.std.specs.Prelude.{◌≡◌, ◌∷◌, ◌<◌, [], length, IsTrue, OnOk};
+ghost use Rattle.std.specs.Prelude.{◌≡◌, ◌∷◌, ◌<◌, [], length, IfOk, IsTrue, OnOk};
 ghost use Rattle.g_fire.specs.Cells.{with_cell};
 ghost use Rattle.g_fire.specs.State.{is_last};
-ghost use Rattle.g_types.specs.declared.rep.Rep.TheVariants as the_rep;
-ghost use Rattle.g_values.specs.declared.value.Value.TheVariants as value;
-ghost use Rattle.g_diagram.specs.Form.{is_sum};
+ghost use Rattle.g_scalars.specs.Scalars.{is_operation};
 ghost use Rattle.g_operations.specs.Values.{outputs_of};
 
 use crate::firing::FrameNode;
 use crate::maps::Terminal;
 use crate::plan::{Input, Step, Work};
+use crate::start::copied;
 use crate::state::{Content, FireState, Fired};
+use crate::sums::{given_by_one, given_by_two};
 use g_lists::List;
-use g_types::{Rep, Ty};
-use g_values::{Num, Primitive, Value, coerce};
+use g_values::{Primitive, Value, coerce};
 use std::alloc::{AllocError, Global};
-
-/// The sum, difference or product of two 32-bit numbers, wrapped.
-#[tactic(auto, using(crate::proofs::SumLemmas::arithmetic_i32))]
-fn sum_of(primitive: Primitive, left: Num, right: Num) -> Num
-    requires sum { IsTrue (is_sum primitive) }
-    requires left { left.rep ≡ the_rep.I32 }
-    requires right { right.rep ≡ the_rep.I32 }
-    ensures value { outputs_of primitive (value.Num left ∷ value.Num right ∷ []) ≡ value.Num result ∷ [] }
-    ensures rep { result.rep ≡ the_rep.I32 }
-{
-    match primitive {
-        Primitive::Add => Num::wrapped(Rep::I32, left.n + right.n),
-        Primitive::Sub => Num::wrapped(Rep::I32, left.n - right.n),
-        Primitive::Mul => Num::wrapped(Rep::I32, left.n * right.n),
-        _ => unreachable!(),
-    }
-}
 
 impl FireState {
     ghost use Rattle.std.specs.Option.{option_copied};
     ghost use Rattle.g_fire.specs.State.{is_done};
-    ghost use Rattle.g_fire.specs.Plan.{input_value, has_input, value_of_input, step_ready, step_can, is_i32};
+    ghost use Rattle.g_fire.specs.Plan.{input_value, has_input, value_of_input, step_ready, step_can, is_scalar};
 
     fn input_value(&self, input: Input) -> Option<&Value>
         ensures { option_copied result ≡ input_value self.now input }
@@ -61,16 +43,47 @@ impl FireState {
         }
     }
 
-    /// The number on a wire.
-    fn number_of(&self, input: Input) -> Num
-        requires { IsTrue (is_i32 (value_of_input self.now input)) }
-        ensures value { value.Num result ≡ value_of_input self.now input }
-        ensures rep { result.rep ≡ the_rep.I32 }
+    /// The value on a wire, and FALSE where there is none.
+    fn value_of(&self, alloc: Global, input: Input) -> Result<Value, AllocError>
+        ensures { IfOk result (λ v. v ≡ value_of_input self.now input) }
     {
         match self.input_value(input) {
-            Some(Value::Num(x)) => *x,
-            _ => unreachable!(),
+            Some(value) => copied(alloc, value),
+            None => Ok(Value::Bool(false)),
         }
+    }
+
+    /// What an operation of one input gives.
+    fn given_one(
+        &self,
+        alloc: Global,
+        primitive: Primitive,
+        input: Input,
+    ) -> Result<Value, AllocError>
+        requires operation { IsTrue (is_operation primitive 1) }
+        requires input { IsTrue (is_scalar (value_of_input self.now input)) }
+        ensures { IfOk result (λ v. outputs_of primitive (value_of_input self.now input ∷ []) ≡ v ∷ []) }
+    {
+        let value = self.value_of(alloc, input)?;
+        Ok(given_by_one(primitive, &value))
+    }
+
+    /// What an operation of two inputs gives.
+    fn given_two(
+        &self,
+        alloc: Global,
+        primitive: Primitive,
+        left: Input,
+        right: Input,
+    ) -> Result<Value, AllocError>
+        requires operation { IsTrue (is_operation primitive 2) }
+        requires left { IsTrue (is_scalar (value_of_input self.now left)) }
+        requires right { IsTrue (is_scalar (value_of_input self.now right)) }
+        ensures { IfOk result (λ v. outputs_of primitive (value_of_input self.now left ∷ value_of_input self.now right ∷ []) ≡ v ∷ []) }
+    {
+        let left = self.value_of(alloc, left)?;
+        let right = self.value_of(alloc, right)?;
+        Ok(given_by_two(primitive, &left, &right))
     }
 
     /// Whether a node of frame 0 has no firing left.
@@ -137,7 +150,7 @@ fn is_last(fired: Fired) -> bool
 
 impl FireState {
     ghost use Rattle.std.specs.Prelude.{slice_get, true};
-    ghost use Rattle.g_fire.specs.Plan.{step_can, step_fired, step_plain, are_i32};
+    ghost use Rattle.g_fire.specs.Plan.{step_can, step_fired, step_plain, are_scalars};
     ghost use Rattle.g_fire.specs.Run.{firing};
     ghost use Rattle.g_fire.specs.Fire.{gives, shows_in, applied, or_same, outputs_from};
     ghost use Rattle.g_fire.specs.declared.state.Fired.TheVariants.{Once};
@@ -185,18 +198,25 @@ impl FireState {
     pub(crate) fn fire(&mut self, alloc: Global, step: &Step) -> Result<(), AllocError>
         requires can { step_can self.old step.now ≡ true }
         requires plain { IsTrue (step_plain step.now) }
-        requires numbers { IsTrue (are_i32 self.old.values) }
+        requires scalars { IsTrue (are_scalars self.old.values) }
         ensures { OnOk result (self.new ≡ step_fired self.old step.now) }
     {
         match (&step.work, step.inputs.as_slice()) {
-            (Work::Give(x), _) => self.give(alloc, step.line, 1, Value::Num(*x)),
+            (Work::Give(value), _) => {
+                let value = copied(alloc, value)?;
+                self.give(alloc, step.line, 1, value)
+            }
+            (Work::Apply { primitive, first }, [input]) => {
+                let value = self.given_one(alloc, *primitive, *input)?;
+                self.give(alloc, step.line, *first, value)
+            }
             (Work::Apply { primitive, first }, [left, right]) => {
-                let x = sum_of(*primitive, self.number_of(*left), self.number_of(*right));
-                self.give(alloc, step.line, *first, Value::Num(x))
+                let value = self.given_two(alloc, *primitive, *left, *right)?;
+                self.give(alloc, step.line, *first, value)
             }
             (Work::Show(ty), [input]) => {
-                let x = self.number_of(*input);
-                self.show(alloc, step.line, coerce(Value::Num(x), ty))
+                let value = self.value_of(alloc, *input)?;
+                self.show(alloc, step.line, coerce(value, ty))
             }
             _ => unreachable!(),
         }

@@ -2,17 +2,18 @@
 
 ghost use Rattle.std.specs.Prelude.{◌≡◌, ◌∷◌, [], Some, IsTrue, map, IfOk};
 ghost use Rattle.std.specs.List.{list_all};
-ghost use Rattle.g_diagram.specs.Form.{is_plain_node};
 ghost use Rattle.g_diagram.specs.Lines.{lines_of, panel_entries, entries_of};
+ghost use Rattle.g_scalars.specs.Scalars.{is_scalar_node};
+ghost use Rattle.g_fire.specs.Fire.{literal_value};
 ghost use Rattle.g_fire.specs.Names.{named};
-ghost use Rattle.g_fire.specs.Plan.{input_on, literal_number, const_work, step_of};
+ghost use Rattle.g_fire.specs.Plan.{input_on, const_work, step_of};
 
 use crate::maps::WireSource;
 use crate::names::Names;
 use g_diagram::{Lit, Node, PanelItem, Vi, Wire};
 use g_lists::List;
 use g_types::{Name, Ty};
-use g_values::{Num, Primitive};
+use g_values::{Num, Primitive, Value};
 use std::alloc::{AllocError, Global};
 
 /// Where an input has its value from.
@@ -29,7 +30,7 @@ pub(crate) enum Input {
 pub(crate) enum Work {
     /// It is of a kind that isn't built.
     Never,
-    Give(Num),
+    Give(Value),
     /// With the operand of the first output.
     Apply { primitive: Primitive, first: u64 },
     /// The type is that of the indicator.
@@ -66,30 +67,28 @@ fn led_inputs(alloc: Global, names: &Names, wires: &[Wire]) -> Result<List<Input
     Ok(List::from_vec(all))
 }
 
-/// The number of a literal of a number type.
-fn literal_number(ty: &Ty, literal: &Lit) -> Option<Num>
-    ensures { result ≡ literal_number ty.now literal.now }
+/// The value of a literal of a number type or bool.
+fn literal_value(ty: &Ty, literal: &Lit) -> Option<Value>
+    ensures { result ≡ literal_value ty.now literal.now }
 {
-    let Ty::Num(rep) = ty else {
-        return None;
-    };
-    match literal {
-        Lit::Number(n) => Some(Num::wrapped(*rep, *n)),
+    match (ty, literal) {
+        (Ty::Num(rep), Lit::Number(n)) => Some(Value::Num(Num::wrapped(*rep, *n))),
+        (Ty::Bool, Lit::Truth(b)) => Some(Value::Bool(*b)),
         _ => None,
     }
 }
 
 fn const_work(ty: &Ty, literal: &Lit) -> Work
-    ensures { result ≡ const_work (literal_number ty.now literal.now) }
+    ensures { result ≡ const_work (literal_value ty.now literal.now) }
 {
-    match literal_number(ty, literal) {
-        Some(x) => Work::Give(x),
+    match literal_value(ty, literal) {
+        Some(value) => Work::Give(value),
         None => Work::Never,
     }
 }
 
 fn node_step(alloc: Global, names: &Names, line: u64, node: &Node) -> Result<Step, AllocError>
-    requires { IsTrue (is_plain_node node.now) }
+    requires { IsTrue (is_scalar_node node.now) }
     ensures { IfOk result (λ step. map (step_of (named names.now)) ((lines_of node.now).entries line 0) ≡ step ∷ []) }
 {
     match node {
@@ -159,7 +158,7 @@ fn show_step(
 
 /// The nodes of a VI whose nodes have one line each.
 pub(crate) fn plan(alloc: Global, names: &Names, vi: &Vi) -> Result<List<Step>, AllocError>
-    requires { IsTrue (list_all is_plain_node vi.now.top.nodes) }
+    requires { IsTrue (list_all is_scalar_node vi.now.top.nodes) }
     ensures { IfOk result (λ steps. steps ≡ map (step_of (named names.now)) (entries_of vi.now)) }
 {
     let panel = vi.panel.as_slice();

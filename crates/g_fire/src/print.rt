@@ -3,7 +3,7 @@
 ghost use Rattle.std.specs.Prelude.{◌≡◌, ◌++◌, ◌∷◌, [], IfOk, OnOk, codes, slice_get};
 ghost use Rattle.std.specs.List.{list_all};
 ghost use Rattle.g_values.specs.Text.{text};
-ghost use Rattle.g_diagram.specs.Form.{IsForm};
+ghost use Rattle.g_scalars.specs.Scalars.{IsNumberForm};
 ghost use Rattle.g_fire.specs.Program.{program};
 ghost use Rattle.g_fire.specs.State.{is_done};
 ghost use Rattle.g_fire.specs.Run.{end_of, IsReached};
@@ -85,8 +85,8 @@ fn all_done(state: &FireState, steps: &[Step]) -> bool
 }
 
 /// How a run stands that came to this state. Only want of memory refuses it.
-pub fn end_at(alloc: Global, h: &Hierarchy, state: &FireState) -> Result<End, AllocError>
-    requires form { IsForm h.now }
+pub(crate) fn end_at(alloc: Global, h: &Hierarchy, state: &FireState) -> Result<End, AllocError>
+    requires form { IsNumberForm h.now }
     requires reached { IsReached (program h.now) state.now }
     ensures { IfOk result (λ end. end ≡ end_of (program h.now) state.now) }
 {
@@ -104,7 +104,7 @@ pub fn end_at(alloc: Global, h: &Hierarchy, state: &FireState) -> Result<End, Al
 /// The printed answer of a state that a run of this hierarchy came to: a line for each indicator of
 /// the VI that runs, and how the run ended.
 pub fn state_text(alloc: Global, h: &Hierarchy, state: &FireState) -> Result<Bytes, AllocError>
-    requires form { IsForm h.now }
+    requires form { IsNumberForm h.now }
     requires reached { IsReached (program h.now) state.now }
     ensures { IfOk result (λ all. all ≡ print (program h.now) state.now) }
 {

@@ -2,7 +2,7 @@
 
 ghost use Rattle.std.specs.Prelude.{◌≡◌, ◌<◌, false, Some, length, IfOk, IfSome, IfNone};
 ghost use Rattle.std.specs.List.{list_any};
-ghost use Rattle.g_diagram.specs.Form.{IsForm};
+ghost use Rattle.g_scalars.specs.Scalars.{IsNumberForm};
 ghost use Rattle.g_fire.specs.Plan.{step_can, CanAt, IsPlan, AreControls};
 ghost use Rattle.g_fire.specs.Program.{program};
 ghost use Rattle.g_fire.specs.Run.{after, IsAtRest};
@@ -95,7 +95,7 @@ fn next_step(steps: &[Step], state: &FireState, noted: &mut BTreeSet<usize>) -> 
 
 /// The nodes of the VI that runs.
 pub(crate) fn steps_of(alloc: Global, h: &Hierarchy) -> Result<List<Step>, AllocError>
-    requires { IsForm h.now }
+    requires { IsNumberForm h.now }
     ensures { IfOk result (λ steps. IsPlan (program h.now) steps) }
 {
     let vi = &h.vis.as_slice()[0];
@@ -119,10 +119,10 @@ pub struct Ran {
     pub state: FireState,
 }
 
-/// Runs a hierarchy of one VI of 32-bit sums on the values of its controls: fires the node of the
+/// Runs a hierarchy of one VI of numbers and Booleans on the values of its controls: fires the node of the
 /// least line that can fire, until none can.
 pub fn run_all(alloc: Global, h: &Hierarchy, controls: ValueList) -> Result<Ran, AllocError>
-    requires form { IsForm h.now }
+    requires form { IsNumberForm h.now }
     requires controls { AreControls h.now controls }
     ensures allowed { IfOk result (λ ran. after (program h.now) controls ran.trace ≡ Some ran.state) }
     ensures rest { IfOk result (λ ran. IsAtRest (program h.now) ran.state) }

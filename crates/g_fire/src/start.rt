@@ -1,7 +1,7 @@
 //! Where a run begins.
 
 ghost use Rattle.std.specs.Prelude.{◌≡◌, [], ◌∷◌, IfOk};
-ghost use Rattle.g_diagram.specs.Form.{IsForm};
+ghost use Rattle.g_scalars.specs.Scalars.{IsNumberForm};
 ghost use Rattle.g_fire.specs.Program.{program};
 ghost use Rattle.g_fire.specs.State.{control_values, first_cells, start};
 
@@ -12,7 +12,8 @@ use g_lists::List;
 use g_values::{Copies, Value, copy, default_of};
 use std::alloc::{AllocError, Global};
 
-fn copied(alloc: Global, value: &Value) -> Result<Value, AllocError>
+/// Another owner of a value, which isn't counted.
+pub(crate) fn copied(alloc: Global, value: &Value) -> Result<Value, AllocError>
     ensures { IfOk result (λ v. v ≡ value.now) }
 {
     copy(alloc, value, &mut Copies { n: 0 })
@@ -69,7 +70,7 @@ pub(crate) fn first_state(
     h: &Hierarchy,
     controls: &[Value],
 ) -> Result<FireState, AllocError>
-    requires { IsForm h.now }
+    requires { IsNumberForm h.now }
     ensures { IfOk result (λ state. state ≡ start (program h.now) controls.now) }
 {
     let panel = h.vis.as_slice()[0].panel.as_slice();

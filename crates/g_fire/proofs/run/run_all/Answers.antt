@@ -2,8 +2,8 @@ use Rattle.std.proofs.Common.{◌∷◌, [], Some, length, ap, sym, subst, ◌�
 use Rattle.g_fire.specs.Program.{program}
 use Rattle.g_fire.specs.State.{start}
 use Rattle.g_fire.specs.Run.{after, firing}
-use Rattle.g_fire.specs.Plan.{are_i32, IsPlan}
-use Rattle.g_fire.proofs.RunLemmas.{is_step, can_step, plain_step, goes_on, keeps_frames, keeps_i32, start_frames, start_i32}
+use Rattle.g_fire.specs.Plan.{are_scalars, IsPlan}
+use Rattle.g_fire.proofs.RunLemmas.{is_step, can_step, plain_step, goes_on, keeps_frames, keeps_scalar, start_frames, start_scalar}
 use Rattle.g_fire.proofs.Bridge.{rests}
 use Rattle.g_fire.proofs.run.run_all.Goals as goal
 
@@ -14,7 +14,7 @@ loop-init c =
     record {
       allowed = ap (after p c.args.controls) c.new-trace.ensures.items ∙ ap Some (sym begins);
       frames = ap (λ s. s.frames) begins ∙ start_frames p c.in_ok-steps.steps c.in_ok-steps.ensures c.args.controls;
-      numbers = ap (λ s. are_i32 s.values) begins ∙ start_i32 p c.in_ok-steps.steps c.in_ok-steps.ensures c.args.controls c.requires.controls.numbers;
+      scalars = ap (λ s. are_scalars s.values) begins ∙ start_scalar p c.in_ok-steps.steps c.in_ok-steps.ensures c.args.controls c.requires.controls.scalars;
       long = ap length c.new-trace.ensures.items;
     }
 
@@ -51,6 +51,6 @@ loop-preserved c =
           ∙ goes_on p steps plan s c.loop.invariant.frames c.args.controls c.loop.trace.items c.loop.invariant.allowed k st at ok
           ∙ ap Some (sym c.in_ok-fire.ensures);
       frames = ap (λ x. x.frames) c.in_ok-fire.ensures ∙ keeps_frames s st ∙ c.loop.invariant.frames;
-      numbers = ap (λ x. are_i32 x.values) c.in_ok-fire.ensures ∙ keeps_i32 s st ok (plain_step steps k st plan.plain at) c.loop.invariant.numbers;
+      scalars = ap (λ x. are_scalars x.values) c.in_ok-fire.ensures ∙ keeps_scalar s st ok (plain_step steps k st plan.plain at) c.loop.invariant.scalars;
       long = ap length c.in_ok-push.ensures.items ∙ omega (arith, length-append c.loop.trace.items (firing 0 st.line ∷ []), c.loop.invariant.long);
     }

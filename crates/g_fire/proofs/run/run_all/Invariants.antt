@@ -1,7 +1,7 @@
 use Rattle.std.proofs.Common.{◌≡◌, ◌∷◌, [], true, Some, length}
 use Rattle.g_fire.specs.Program.{program}
 use Rattle.g_fire.specs.State.{first_frame}
-use Rattle.g_fire.specs.Plan.{are_i32}
+use Rattle.g_fire.specs.Plan.{are_scalars}
 use Rattle.g_fire.specs.Run.{after}
 use Rattle.g_fire.proofs.run.run_all.Given as goal
 
@@ -9,6 +9,6 @@ abbrev pub invariant-loop : goal.invariant-loop
 invariant-loop l = record {
   allowed : after (program l.h) l.fn.controls l.trace.items ≡ Some l.state;
   frames : l.state.frames ≡ first_frame ∷ [];
-  numbers : are_i32 l.state.values ≡ true;
+  scalars : are_scalars l.state.values ≡ true;
   long : length l.trace.items ≡ l.counter;
 }
