@@ -174,6 +174,12 @@ fn in_the_buffer_as_plainly(rt: HostRuntime) -> Result<(), Fail> {
         assert!(rt; is_same_of_each(alloc, &Primitive::Abs, count)?);
         assert!(rt; is_same_of_each(alloc, &Primitive::Not, count)?);
         assert!(rt; is_same_of_each(alloc, &Primitive::ToI8, count)?);
+        assert!(rt; is_same_of_each(alloc, &Primitive::ToI16, count)?);
+        assert!(rt; is_same_of_each(alloc, &Primitive::ToI32, count)?);
+        assert!(rt; is_same_of_each(alloc, &Primitive::ToI64, count)?);
+        assert!(rt; is_same_of_each(alloc, &Primitive::ToU8, count)?);
+        assert!(rt; is_same_of_each(alloc, &Primitive::ToU16, count)?);
+        assert!(rt; is_same_of_each(alloc, &Primitive::ToU32, count)?);
         assert!(rt; is_same_of_each(alloc, &Primitive::ToU64, count)?);
     }
     Ok(())
