@@ -7,4 +7,10 @@ pub mod Sorting
 pub mod Turning
 pub mod Cycling
 pub mod Codings
+pub mod NameLemmas
+pub mod Steps
+pub mod DiagramLemmas
+pub mod QueueLemmas
+pub mod RepeatLemmas
+pub mod ArityLemmas
 mod Examples

@@ -4,3 +4,4 @@ pub mod Coding
 pub mod Marks
 pub mod Checked
 pub mod Lines
+pub mod Names

@@ -1,7 +1,6 @@
 -- The rules on names and lines alone. Of each rule: the places of a VI at which it is broken, as the items that it looks at and a test.
 use Rattle.std.specs.Prelude.{ℕ, Bool, not, ◌&&◌, List, map, filter}
 use Rattle.std.specs.List.{list_any}
-use Rattle.g_diagram.specs.declared.hierarchy.Vi.{Vi}
 use Rattle.g_diagram.specs.Ports.{Port, sources, consumers, are_joined, is_wired, is_before, has_wire}
 use Rattle.g_diagram.specs.Leads.{Leads}
 
