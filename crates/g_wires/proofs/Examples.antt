@@ -1,12 +1,13 @@
 -- Rules on small listings, computed: of each rule one that it breaks and one that it doesn't.
-use Rattle.std.proofs.Common.{◌≡◌, ℕ, ◌++◌, List, [], ◌∷◌, refl, ap, true, false}
+use Rattle.std.proofs.Common.{◌≡◌, ℕ, pos, negsuc, ◌++◌, List, [], ◌∷◌, refl, ap, true, false}
 use Rattle.std.specs.Prelude.{Some, None, codes}
 use Rattle.g_types.specs.declared.rep.Rep.TheVariants.{I32}
 use Rattle.g_types.specs.declared.ty.Ty.TheVariants.{Num}
 use Rattle.g_values.specs.declared.primitive.Primitive.TheVariants as op
 use Rattle.g_diagram.specs.declared.hierarchy.Clones.TheVariants.{NonReentrant}
 use Rattle.g_diagram.specs.declared.hierarchy.System.TheVariants.{Same}
-use Rattle.g_diagram.specs.declared.node.Selector.TheVariants.{Default}
+use Rattle.g_diagram.specs.declared.node.Selector.{Selector}
+use Rattle.g_diagram.specs.declared.node.Selector.TheVariants.{Number, Range, Truth, Text, Default}
 use Rattle.g_diagram.specs.declared.node.SharedOp.TheVariants as shared
 use Rattle.g_diagram.specs.declared.node.Tunnel.TheVariants.{Tunnel, Result, Index, Ref}
 use Rattle.g_diagram.specs.declared.panel.PanelItem.TheVariants.{Control, Indicator}
@@ -14,7 +15,7 @@ use Rattle.g_diagram.specs.declared.place.Break.{Break}
 use Rattle.g_diagram.specs.Lines.{Wire, Entry}
 use Rattle.g_diagram.specs.Operands.{control_lines, entries_lines}
 use Rattle.g_diagram.specs.Ports.{Port, ports_in, ports_of, freedom, has_wire}
-use Rattle.g_diagram.proofs.Trees.{Sketch, vi_of, same_entries, Trees, none, also, Apply, Call, Case, For, Read, Write, Shared, InPlace, when, end}
+use Rattle.g_diagram.proofs.Trees.{Sketch, vi_of, same_entries, Trees, Choices, none, also, Apply, Call, Case, For, While, Read, Write, Shared, InPlace, when, end}
 use Rattle.g_wires.specs.Wiring.{LeadsToItself}
 use Rattle.g_wires.specs.Breaks.{break, named_in, lined_by, renamed_vis, plain_breaks, absent_main}
 use Rattle.g_wires.specs.Lines.{known_of, arities, first_queue, queues_in}
@@ -92,10 +93,10 @@ unread = sums (add_to (w (codes "a")) (w (codes "a")) (w (codes "w")) (inc_to (w
 unread_broken : broken unread ≡ at 3 6 2 ∷ []
 unread_broken = ap (broken_by unread) (same_entries unread)
 
--- a case's tunnel may go unused in a branch, and has a name of its own there: case a; tunnel a -> w; when default; end
+-- a case's tunnel may go unused in a branch, and has a name of its own there: case a; tunnel a -> w; when 1; when default; inc w -> _; end
 abbrev chosen : Sketch
 chosen = sums (add_to (w (codes "a")) (w (codes "a")) (w (codes "w")) (inc_to (w (codes "w")) (w (codes "t"))
-    (also (Case (w (codes "a")) (Tunnel (w (codes "a")) (w (codes "w")) ∷ []) (when (Default ∷ []) [] none (when (Default ∷ []) [] (inc_to (w (codes "w")) None none) end))) none)))
+    (also (Case (w (codes "a")) (Tunnel (w (codes "a")) (w (codes "w")) ∷ []) (when (Number (pos 1) ∷ []) [] none (when (Default ∷ []) [] (inc_to (w (codes "w")) None none) end))) none)))
 
 chosen_broken : broken chosen ≡ []
 chosen_broken = ap (broken_by chosen) (same_entries chosen)
@@ -148,10 +149,34 @@ locals = sums (also (Read (codes "b") (w (codes "w"))) (also (Read (codes "r") (
 locals_broken : broken locals ≡ at 8 4 0 ∷ at 8 7 0 ∷ []
 locals_broken = ap (broken_by locals) (same_entries locals)
 
--- 11: case a; tunnel a -> x; result w; result t default; when default; give _ _; when default; give x _; end
+-- 10: case a with when 1, 4..6; when 9..7; when 8; when 5..7; when 7; when 2, 2; when default; when default. The second falls, and so has
+-- no 8; the fourth has 5 again; the fifth has what a broken line has; the sixth repeats itself; and the last repeats the one before
+abbrev choosing : Trees → Trees
+choosing ts = add_to (w (codes "a")) (w (codes "a")) (w (codes "w")) (inc_to (w (codes "w")) (w (codes "t")) ts)
+
+abbrev when_only : List Selector → Choices → Choices
+when_only ss arms = when ss [] none arms
+
+abbrev reselects : Sketch
+reselects = sums (choosing (also (Case (w (codes "a")) []
+    (when_only (Number (pos 1) ∷ Range (pos 4) (pos 6) ∷ []) (when_only (Range (pos 9) (pos 7) ∷ []) (when_only (Number (pos 8) ∷ []) (when_only (Range (pos 5) (pos 7) ∷ [])
+    (when_only (Number (pos 7) ∷ []) (when_only (Number (pos 2) ∷ Number (pos 2) ∷ []) (when_only (Default ∷ []) (when_only (Default ∷ []) end))))))))) none))
+
+reselects_broken : broken reselects ≡ at 10 8 0 ∷ at 10 10 0 ∷ at 10 11 0 ∷ at 10 12 0 ∷ at 10 14 0 ∷ []
+reselects_broken = ap (broken_by reselects) (same_entries reselects)
+
+-- values of each kind once: when TRUE, -1..3; when FALSE, "a"; when "ab", 4; when default
+abbrev selects : Sketch
+selects = sums (choosing (also (Case (w (codes "a")) []
+    (when_only (Truth true ∷ Range (negsuc 0) (pos 3) ∷ []) (when_only (Truth false ∷ Text (codes "a") ∷ []) (when_only (Text (codes "ab") ∷ Number (pos 4) ∷ []) (when_only (Default ∷ []) end))))) none))
+
+selects_broken : broken selects ≡ []
+selects_broken = ap (broken_by selects) (same_entries selects)
+
+-- 11: case a; tunnel a -> x; result w; result t default; when 1; give _ _; when default; give x _; end
 abbrev results : Sketch
 results = sums (also (Case (w (codes "a")) (Tunnel (w (codes "a")) (w (codes "x")) ∷ Result (w (codes "w")) false ∷ Result (w (codes "t")) true ∷ [])
-    (when (Default ∷ []) (None ∷ None ∷ []) none (when (Default ∷ []) (w (codes "x") ∷ None ∷ []) none end))) none)
+    (when (Number (pos 1) ∷ []) (None ∷ None ∷ []) none (when (Default ∷ []) (w (codes "x") ∷ None ∷ []) none end))) none)
 
 results_broken : broken results ≡ at 11 9 1 ∷ at 11 7 1 ∷ []
 results_broken = ap (broken_by results) (same_entries results)
@@ -159,7 +184,7 @@ results_broken = ap (broken_by results) (same_entries results)
 -- a result that is marked `default` may be unwired in a branch
 abbrev given : Sketch
 given = sums (also (Case (w (codes "a")) (Tunnel (w (codes "a")) (w (codes "x")) ∷ Result (w (codes "w")) false ∷ Result (w (codes "t")) true ∷ [])
-    (when (Default ∷ []) (w (codes "x") ∷ None ∷ []) none (when (Default ∷ []) (w (codes "x") ∷ w (codes "x") ∷ []) none end))) none)
+    (when (Number (pos 1) ∷ []) (w (codes "x") ∷ None ∷ []) none (when (Default ∷ []) (w (codes "x") ∷ w (codes "x") ∷ []) none end))) none)
 
 given_broken : broken given ≡ []
 given_broken = ap (broken_by given) (same_entries given)
@@ -181,6 +206,16 @@ crowded = sums (add_to (w (codes "a")) (w (codes "a")) (w (codes "w")) (inc_to (
 
 crowded_broken : broken crowded ≡ at 12 12 0 ∷ at 12 8 0 ∷ at 12 14 0 ∷ []
 crowded_broken = ap (broken_by crowded) (same_entries crowded)
+
+-- what stands in a loop that may not stand there isn't looked at, but for its `ref`: inplace; do; while s -> _; do; read a -> s; inplace;
+-- ref s -> x | x -> _ _; do; read a -> _; end; end; end
+abbrev nested : Sketch
+nested = sums (choosing (also (InPlace []
+    (also (While (w (codes "s")) None []
+    (also (Read (codes "a") (w (codes "s"))) (also (InPlace (Ref (w (codes "s")) (w (codes "x")) (w (codes "x")) None None ∷ []) (also (Read (codes "a") None) none)) none))) none)) none))
+
+nested_broken : broken nested ≡ at 12 8 0 ∷ at 12 12 0 ∷ []
+nested_broken = ap (broken_by nested) (same_entries nested)
 
 -- one ref, and a case in the body: inplace; ref a -> x | y -> _ _; do; inc x -> y; case x; tunnel x -> z; when default; inc z -> _; end; end
 abbrev modest : Sketch

@@ -13,4 +13,5 @@ pub mod DiagramLemmas
 pub mod QueueLemmas
 pub mod RepeatLemmas
 pub mod ArityLemmas
+pub mod ClashLemmas
 mod Examples

@@ -12,7 +12,7 @@ use Rattle.g_diagram.specs.declared.hierarchy.Hierarchy.{Hierarchy}
 use Rattle.g_diagram.specs.Lines.{Entry, entries_of}
 use Rattle.g_diagram.specs.Ports.{Port, ports_of}
 use Rattle.g_wires.specs.Wiring.{Spot, unsourced, repeated, unused, unwired, LeadsToItself}
-use Rattle.g_wires.specs.Lines.{spot_at, Arities, Queues, Known, known_of, named_again, panel_name, names_object, miscounted, unlocated, uncalled, resultless, misplaced, countless, unequal}
+use Rattle.g_wires.specs.Lines.{spot_at, Arities, Queues, Known, known_of, named_again, panel_name, names_object, miscounted, unlocated, uncalled, reselected, resultless, misplaced, countless, unequal}
 
 abbrev pub break : (vi rule : ℕ) → Spot → Break
 break vi rule s = record { place = record { vi = vi; line = s.line; operand = s.operand }; rule = rule }
@@ -49,8 +49,9 @@ called_by known number panel es =
 -- those on its structures and queues
 abbrev pub structured_by : Queues → (number : ℕ) → List Entry → List Break
 structured_by queues number es =
-    map (break number 11) (resultless es)
-    ++ (map (break number 12) (misplaced es) ++ (map (break number 13) (countless es) ++ map (break number 14) (unequal queues es)))
+    map (break number 10) (reselected es)
+    ++ (map (break number 11) (resultless es)
+    ++ (map (break number 12) (misplaced es) ++ (map (break number 13) (countless es) ++ map (break number 14) (unequal queues es))))
 
 -- the breaks on the lines of one VI with these nodes
 abbrev pub lined_by : Known → (number : ℕ) → List PanelItem → List Entry → List Break
@@ -85,7 +86,7 @@ pub record Cycles (ports : Vi → List Port) (vis : List Vi) (b : Break) : Type 
 abbrev pub BreaksBy : (ports : Vi → List Port) → Known → List Vi → (main : List ℕ) → Break → Type 0
 BreaksBy ports known vis main b = IsTrue (has_break (plain_breaks ports known vis ++ absent_main known.arities (length vis) main) b) ⊎ Cycles ports vis b
 
--- what is broken of rules 1 to 9 and 11 to 14
+-- what is broken of rules 1 to 14
 abbrev pub WiringBreak : Hierarchy → (main : List ℕ) → Break → Type 0
 WiringBreak h main b = BreaksBy (ports_of h.vis) (known_of h.vis) h.vis main b
 

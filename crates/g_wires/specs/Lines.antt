@@ -1,6 +1,6 @@
 -- The rules on lines: counts, names of VIs, panels and queues, selectors, results and bodies in place. Of each rule: the places of a VI at
 -- which it is broken, as the items that it looks at and a test.
-use Rattle.std.specs.Prelude.{ℕ, ◌+◌, ◌==◌, nat_lt, Bool, true, false, not, ◌&&◌, ◌||◌, List, [], ◌∷◌, ◌++◌, map, filter, length, if◌then◌else◌, Option, Some, None, is_some, slice_get, ℤ, int_le}
+use Rattle.std.specs.Prelude.{ℕ, ◌+◌, ◌==◌, nat_lt, Bool, true, false, not, ◌&&◌, ◌||◌, List, [], ◌∷◌, ◌++◌, map, filter, length, if◌then◌else◌, Option, Some, None, is_some, slice_get, ℤ}
 use Rattle.std.specs.List.{list_any, flat_map}
 use Rattle.std.specs.Option.{option_map, option_or}
 use Rattle.std.specs.Ordering.{int_eq}
@@ -10,7 +10,6 @@ use Rattle.g_types.specs.Same.{same_type}
 use Rattle.g_values.specs.declared.primitive.Primitive.{Primitive}
 use Rattle.g_values.specs.declared.primitive.Primitive.TheVariants as op
 use Rattle.g_diagram.specs.declared.node.Selector.{Selector}
-use Rattle.g_diagram.specs.declared.node.Selector.TheVariants as selector
 use Rattle.g_diagram.specs.declared.node.SharedOp.{SharedOp}
 use Rattle.g_diagram.specs.declared.node.SharedOp.TheVariants as shared
 use Rattle.g_diagram.specs.declared.node.Tunnel.{Tunnel}
@@ -20,6 +19,7 @@ use Rattle.g_diagram.specs.declared.panel.PanelItem.TheVariants.{Control, Indica
 use Rattle.g_diagram.specs.declared.hierarchy.Vi.{Vi}
 use Rattle.g_diagram.specs.Lines.{Wire, Arm, Entry, Kind, Const, Apply, Shared, Obtain, Read, Write, Call, For, While, Case, Sequence, InPlace, entries_of}
 use Rattle.g_diagram.specs.Ports.{first_vi}
+use Rattle.g_selectors.specs.Clashes.{clashes}
 use Rattle.g_wires.specs.Wiring.{Spot}
 
 -- an operand of a line; a line is its operand 0
@@ -150,34 +150,7 @@ names_no_vi known _ = false
 abbrev pub uncalled : Arities → List Entry → List Spot
 uncalled known es = map whole (filter (λ e. names_no_vi known e.kind) es)
 
--- 10: each `when` line with a value, or a `default`, that stands in the case before, or with a range that falls. A number is a range of
--- one; a range that falls has no value
-abbrev pub falls : Selector → Bool
-falls (selector.Range low high) = not (int_le low high)
-falls _ = false
-
-abbrev pub meet : (a b c d : ℤ) → Bool
-meet a b c d = int_le a b && (int_le c d && (int_le a d && int_le c b))
-
-abbrev pub same_truth : Bool → Bool → Bool
-same_truth true b = b
-same_truth false b = not b
-
-abbrev pub overlaps : Selector → Selector → Bool
-overlaps (selector.Number a) (selector.Number c) = int_eq a c
-overlaps (selector.Number a) (selector.Range c d) = meet a a c d
-overlaps (selector.Range a b) (selector.Number c) = meet a b c c
-overlaps (selector.Range a b) (selector.Range c d) = meet a b c d
-overlaps (selector.Truth a) (selector.Truth b) = same_truth a b
-overlaps (selector.Text a) (selector.Text b) = bytes_eq a b
-overlaps selector.Default selector.Default = true
-overlaps _ _ = false
-
--- the values of one `when` count as before one another
-abbrev pub clashes : (before selectors : List Selector) → Bool
-clashes before [] = false
-clashes before (s ∷ ss) = falls s || (list_any (overlaps s) before || clashes (s ∷ before) ss)
-
+-- 10: each `when` line with a value, or a `default`, that stands in the case before, or with a range that falls
 abbrev pub arm_clashes : (before : List Selector) → List Arm → List Spot
 arm_clashes before [] = []
 arm_clashes before (arm ∷ arms) = (if clashes before arm.selectors then spot_at arm.body 0 ∷ [] else []) ++ arm_clashes (before ++ arm.selectors) arms
@@ -247,23 +220,24 @@ no_diagrams d = false
 abbrev pub with_node : (looks : Bool) → Kind → Diagrams → Diagrams
 with_node looks kind ds d = ds d || (looks && list_any (λ x. x == d) (diagrams_in kind))
 
--- a node in a diagram is one to look into: a structure in place, or a case in one of these diagrams
-abbrev pub is_body : Diagrams → (diagram : ℕ) → Kind → Bool
-is_body ds d kind = is_in_place kind || (is_case kind && ds d)
+-- A node in a diagram is one to look into: in a body, a structure in place or a case; outside of all bodies, a structure in place. So a
+-- loop that stands in a body is broken itself, and nothing in it is looked into, a structure in place neither
+abbrev pub is_body : (inside bodies : Diagrams) → (diagram : ℕ) → Kind → Bool
+is_body inside ds d kind = (ds d && (is_in_place kind || is_case kind)) || (not (inside d) && is_in_place kind)
 
 -- a structure in place, or any node in one of these diagrams
 abbrev pub is_inside : Diagrams → (diagram : ℕ) → Kind → Bool
 is_inside ds d kind = is_in_place kind || ds d
 
--- the bodies in place and the branches of cases in them: what holds a node stands before it
-abbrev pub bodies : Diagrams → List Entry → Diagrams
-bodies ds [] = ds
-bodies ds (e ∷ es) = bodies (with_node (is_body ds e.diagram e.kind) e.kind ds) es
-
--- all diagrams that stand somewhere inside a body in place, and that body
+-- all diagrams that stand somewhere inside a body in place, and that body: what holds a node stands before it
 abbrev pub insides : Diagrams → List Entry → Diagrams
 insides ds [] = ds
 insides ds (e ∷ es) = insides (with_node (is_inside ds e.diagram e.kind) e.kind ds) es
+
+-- the bodies in place and the branches of cases in them that are looked into
+abbrev pub bodies : (inside : Diagrams) → Diagrams → List Entry → Diagrams
+bodies inside ds [] = ds
+bodies inside ds (e ∷ es) = bodies inside (with_node (is_body inside ds e.diagram e.kind) e.kind ds) es
 
 abbrev pub may_stand_in_place : Kind → Bool
 may_stand_in_place (Const t literal out) = true
@@ -276,7 +250,7 @@ may_stand_in_place _ = false
 abbrev pub strangers : Diagrams → List Entry → List Spot
 strangers ds es = map whole (filter (λ e. ds e.diagram && not (may_stand_in_place e.kind)) es)
 
--- the `ref` lines from a line on, but for the first if one is allowed
+-- the `ref` lines from a line on, but for the first if one is allowed: none is somewhere inside another body
 abbrev pub spare_refs : (line : ℕ) → (allowed : Bool) → List Tunnel → List Spot
 spare_refs l allowed [] = []
 spare_refs l allowed (line.Ref reference inner next same code ∷ ts) = (if allowed then [] else spot_at l 0 ∷ []) ++ spare_refs (l + 1) false ts
@@ -290,7 +264,7 @@ abbrev pub all_spare_refs : Diagrams → List Entry → List Spot
 all_spare_refs ds es = flat_map (λ e. kind_spare_refs e.line (ds e.diagram) e.kind) es
 
 abbrev pub misplaced : List Entry → List Spot
-misplaced es = strangers (bodies no_diagrams es) es ++ all_spare_refs (insides no_diagrams es) es
+misplaced es = strangers (bodies (insides no_diagrams es) no_diagrams es) es ++ all_spare_refs (insides no_diagrams es) es
 
 -- 13: the count of each `for` that is unwired where there is no `index` line
 abbrev pub is_index : Tunnel → Bool

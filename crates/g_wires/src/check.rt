@@ -122,7 +122,7 @@ fn check_vis(alloc: Global, known: &Known<'_>, vis: &[Vi]) -> Result<Findings, A
     Ok(found)
 }
 
-/// All breaks of rules 1 to 9 and 11 to 14, strictly ascending by VI, line, operand and rule:
+/// All breaks of rules 1 to 14, strictly ascending by VI, line, operand and rule:
 ///
 /// 1. each consumer whose name has no source in its diagram;
 /// 2. each source whose name has a source before it in its diagram;
@@ -134,11 +134,13 @@ fn check_vis(alloc: Global, known: &Known<'_>, vis: &[Vi]) -> Result<Findings, A
 /// 7. each VI whose name one before it has, and each panel line whose name a line before it has;
 /// 8. each `read` or `write` that names no object of its VI's panel;
 /// 9. each `call` that names no VI; and, at line 0 of a VI after all others, that none has MAIN's name;
+/// 10. each `when` line with a value, or a `default`, that stands in its case before, the same line
+///     included, or with a range that falls;
 /// 11. each unwired operand of a `give` for a result without default, and each result that is wired in
 ///     no branch;
 /// 12. in a body in place, or a case in it, each node other than `const`, a primitive, a case or a
-///     structure in place; each `ref` line after the first of its structure; and each `ref` line of a
-///     structure inside another body in place;
+///     structure in place, and nothing that stands in such a node; each `ref` line after the first of its
+///     structure; and each `ref` line of a structure anywhere inside another body in place;
 /// 13. the count of each `for` that is unwired where there is no `index` line;
 /// 14. each `obtain` that differs in size or type from the first with its name.
 ///

@@ -112,16 +112,18 @@ fn is_case(kind: &Kind<'_>) -> bool
     }
 }
 
-fn is_body(diagrams: &Diagrams, diagram: u32, kind: &Kind<'_>) -> bool
-    ensures { result ≡ spec.is_body (has_diagram diagrams.now) diagram (table.seen_kind kind.now) }
+/// Whether a node is looked into: in a body, a structure in place or a case; outside of all bodies, a
+/// structure in place.
+fn is_body(insides: &Diagrams, bodies: &Diagrams, diagram: u32, kind: &Kind<'_>) -> bool
+    ensures { result ≡ spec.is_body (has_diagram insides.now) (has_diagram bodies.now) diagram (table.seen_kind kind.now) }
 {
-    if is_in_place(kind) {
-        return true;
+    if is_one(bodies, diagram) {
+        return is_in_place(kind) || is_case(kind);
     }
-    if !is_case(kind) {
+    if is_one(insides, diagram) {
         return false;
     }
-    is_one(diagrams, diagram)
+    is_in_place(kind)
 }
 
 fn is_inside(diagrams: &Diagrams, diagram: u32, kind: &Kind<'_>) -> bool
@@ -142,18 +144,6 @@ fn add_if(looks: bool, diagrams: &mut Diagrams, kind: &Kind<'_>) -> Result<(), A
     add_kind(diagrams, kind)
 }
 
-/// The bodies in place and the branches of cases in them.
-pub fn bodies(alloc: Global, entries: &[Entry<'_>]) -> Result<Diagrams, AllocError>
-    ensures { IfOk result (λ diagrams. (d : ℕ) → has_diagram diagrams d ≡ spec.bodies spec.no_diagrams (map table.seen entries.now) d) }
-{
-    let mut diagrams = no_diagrams(alloc);
-    for entry in entries {
-        let looks = is_body(&diagrams, entry.diagram, &entry.kind);
-        add_if(looks, &mut diagrams, &entry.kind)?;
-    }
-    Ok(diagrams)
-}
-
 /// All diagrams that stand somewhere inside a body in place, and that body.
 pub fn insides(alloc: Global, entries: &[Entry<'_>]) -> Result<Diagrams, AllocError>
     ensures { IfOk result (λ diagrams. (d : ℕ) → has_diagram diagrams d ≡ spec.insides spec.no_diagrams (map table.seen entries.now) d) }
@@ -161,6 +151,23 @@ pub fn insides(alloc: Global, entries: &[Entry<'_>]) -> Result<Diagrams, AllocEr
     let mut diagrams = no_diagrams(alloc);
     for entry in entries {
         let looks = is_inside(&diagrams, entry.diagram, &entry.kind);
+        add_if(looks, &mut diagrams, &entry.kind)?;
+    }
+    Ok(diagrams)
+}
+
+/// The bodies in place and the branches of cases in them that are looked into, where `insides` has all
+/// diagrams inside bodies in place.
+pub fn bodies(
+    alloc: Global,
+    insides: &Diagrams,
+    entries: &[Entry<'_>],
+) -> Result<Diagrams, AllocError>
+    ensures { IfOk result (λ diagrams. (d : ℕ) → has_diagram diagrams d ≡ spec.bodies (has_diagram insides.now) spec.no_diagrams (map table.seen entries.now) d) }
+{
+    let mut diagrams = no_diagrams(alloc);
+    for entry in entries {
+        let looks = is_body(insides, &diagrams, entry.diagram, &entry.kind);
         add_if(looks, &mut diagrams, &entry.kind)?;
     }
     Ok(diagrams)

@@ -142,8 +142,8 @@ fn push_all_spare_refs(
 }
 
 /// Adds the breaks of rule 12: in a body in place, or a case in it, each node other than `const`, a
-/// primitive, a case or a structure in place; each `ref` after the first of its structure; and each `ref`
-/// of a structure inside another body in place.
+/// primitive, a case or a structure in place, but for what stands in such a node; each `ref` after the
+/// first of its structure; and each `ref` of a structure anywhere inside another body in place.
 pub fn push_misplaced(
     alloc: Global,
     vi: u32,
@@ -152,9 +152,9 @@ pub fn push_misplaced(
 ) -> Result<(), AllocError>
     ensures { OnOk result (breaks.new.items ≡ breaks.old.items ++ map (break vi 12) (spec.misplaced (map table.seen entries.now))) }
 {
-    let bodies = bodies(alloc, entries)?;
-    push_strangers(vi, &bodies, entries, breaks)?;
     let insides = insides(alloc, entries)?;
+    let bodies = bodies(alloc, &insides, entries)?;
+    push_strangers(vi, &bodies, entries, breaks)?;
     push_all_spare_refs(vi, &insides, entries, breaks)?;
     Ok(())
 }

@@ -19,6 +19,7 @@ mod objects;
 mod place;
 mod queues;
 mod repeats;
+mod reselects;
 mod results;
 mod turns;
 

@@ -12,6 +12,7 @@ use crate::in_place::push_misplaced;
 use crate::objects::push_unlocated;
 use crate::queues::{Queues, push_unequal};
 use crate::repeats::push_panel_repeats;
+use crate::reselects::push_reselected;
 use crate::results::push_resultless;
 use g_diagram::{Break, PanelItem};
 use g_table::Entry;
@@ -45,6 +46,7 @@ fn push_structured(
 ) -> Result<(), AllocError>
     ensures { OnOk result (breaks.new.items ≡ breaks.old.items ++ structured_by (queue_at queues.now) vi (map table.seen entries.now)) }
 {
+    push_reselected(alloc, vi, entries, breaks)?;
     push_resultless(vi, entries, breaks)?;
     push_misplaced(alloc, vi, entries, breaks)?;
     push_countless(vi, entries, breaks)?;

@@ -8,9 +8,10 @@ use Rattle.g_wires.proofs.diagrams.bodies.Goals as goal
 pub loop-entry-init : goal.loop-entry-init
 loop-entry-init c = λ d.
     let same : has_diagram c.no_diagrams-diagrams.result ≡ spec.no_diagrams = λ i x. c.no_diagrams-diagrams.ensures x i in
-    ap (λ (ds : spec.Diagrams). spec.bodies ds (map table.seen c.args.entries.now) d) same
+    ap (λ (ds : spec.Diagrams). spec.bodies (has_diagram c.args.insides.now) ds (map table.seen c.args.entries.now) d) same
 
 pub loop-entry-preserved : goal.loop-entry-preserved
 loop-entry-preserved c = λ d.
-    diagrams_more spec.bodies spec.is_body (λ ds e es. refl) c.args.entries.now c.loop-entry.entry-index c.entry-item.result c.is_body-looks.result (has_diagram c.loop-entry.diagrams) (has_diagram c.add_if.new.diagrams)
+    let inside : spec.Diagrams = has_diagram c.args.insides.now in
+    diagrams_more (spec.bodies inside) (spec.is_body inside) (λ ds e es. refl) c.args.entries.now c.loop-entry.entry-index c.entry-item.result c.is_body-looks.result (has_diagram c.loop-entry.diagrams) (has_diagram c.add_if.new.diagrams)
     c.loop-entry-test.true c.entry-item.is c.is_body-looks.ensures c.in_ok-add_if.ensures d ∙ c.loop-entry.invariant d

@@ -12,10 +12,11 @@ pub returns : goal.returns
 returns c =
     let es : List lines.Entry = map table.seen c.args.entries.now in
     let old : List Break = c.args.breaks.now.items in
-    let one : has_diagram c.in_ok-bodies.bodies ≡ bodies no_diagrams es = λ i d. c.in_ok-bodies.ensures d i in
-    let two : has_diagram c.in_ok-insides.insides ≡ insides no_diagrams es = λ i d. c.in_ok-insides.ensures d i in
+    let inside : Diagrams = insides no_diagrams es in
+    let two : has_diagram c.in_ok-insides.insides ≡ inside = λ i d. c.in_ok-insides.ensures d i in
+    let one : has_diagram c.in_ok-bodies.bodies ≡ bodies inside no_diagrams es = (λ i d. c.in_ok-bodies.ensures d i) ∙ ap (λ (ds : Diagrams). bodies ds no_diagrams es) two in
     c.in_ok-push_all_spare_refs.ensures
     ∙ ap (λ (ds : Diagrams). c.push_strangers.new.breaks.items ++ map (break c.args.vi 12) (all_spare_refs ds es)) two
-    ∙ ap (λ (bs : List Break). bs ++ map (break c.args.vi 12) (all_spare_refs (insides no_diagrams es) es)) (c.in_ok-push_strangers.ensures ∙ ap (λ (ds : Diagrams). old ++ map (break c.args.vi 12) (strangers ds es)) one)
-    ∙ append_assoc old (map (break c.args.vi 12) (strangers (bodies no_diagrams es) es)) (map (break c.args.vi 12) (all_spare_refs (insides no_diagrams es) es))
-    ∙ ap (λ (bs : List Break). old ++ bs) (sym (map-append (break c.args.vi 12) (strangers (bodies no_diagrams es) es) (all_spare_refs (insides no_diagrams es) es)))
+    ∙ ap (λ (bs : List Break). bs ++ map (break c.args.vi 12) (all_spare_refs inside es)) (c.in_ok-push_strangers.ensures ∙ ap (λ (ds : Diagrams). old ++ map (break c.args.vi 12) (strangers ds es)) one)
+    ∙ append_assoc old (map (break c.args.vi 12) (strangers (bodies inside no_diagrams es) es)) (map (break c.args.vi 12) (all_spare_refs inside es))
+    ∙ ap (λ (bs : List Break). old ++ bs) (sym (map-append (break c.args.vi 12) (strangers (bodies inside no_diagrams es) es) (all_spare_refs inside es)))
