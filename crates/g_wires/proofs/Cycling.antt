@@ -16,8 +16,9 @@ use Rattle.g_diagram.specs.Ports.{Port, has_wire}
 use Rattle.g_diagram.specs.Leads.{Leads}
 use Rattle.g_wires.specs.declared.coded.Coded.{Coded}
 use Rattle.g_wires.specs.Wiring.{LeadsToItself}
-use Rattle.g_wires.specs.Breaks.{place_cmp, break_cmp, has_break, Cycles, BreaksBy, ListsEach, plain_breaks, absent_main, each_from}
-use Rattle.g_wires.specs.Lines.{Known}
+use Rattle.g_wires.specs.Breaks.{place_cmp, break_cmp, has_break, Cycles, BreaksBy, ListsEach, plain_breaks, each_from}
+use Rattle.g_line_breaks.specs.Lists.{absent_main}
+use Rattle.g_line_breaks.specs.Lines.{Known}
 use Rattle.g_wires.specs.Marks.{line_break, marked_from, coded_wire}
 use Rattle.g_wires.specs.Checked.{TellsLines, IsCycle, AddsCycles, CyclesBelow}
 use Rattle.g_wires.proofs.Found.{or_left, or_right, or_cases, and_left, and_right, and_both, same_number, number_same}

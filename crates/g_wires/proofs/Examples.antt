@@ -1,24 +1,24 @@
 -- Rules on small listings, computed: of each rule one that it breaks and one that it doesn't.
-use Rattle.std.proofs.Common.{◌≡◌, ℕ, pos, negsuc, ◌++◌, List, [], ◌∷◌, refl, ap, true, false}
+use Rattle.std.proofs.Common.{◌≡◌, ℕ, pos, ◌++◌, List, [], ◌∷◌, ap, true, false}
 use Rattle.std.specs.Prelude.{Some, None, codes}
 use Rattle.g_types.specs.declared.rep.Rep.TheVariants.{I32}
 use Rattle.g_types.specs.declared.ty.Ty.TheVariants.{Num}
 use Rattle.g_values.specs.declared.primitive.Primitive.TheVariants as op
 use Rattle.g_diagram.specs.declared.hierarchy.Clones.TheVariants.{NonReentrant}
 use Rattle.g_diagram.specs.declared.hierarchy.System.TheVariants.{Same}
-use Rattle.g_diagram.specs.declared.node.Selector.{Selector}
-use Rattle.g_diagram.specs.declared.node.Selector.TheVariants.{Number, Range, Truth, Text, Default}
-use Rattle.g_diagram.specs.declared.node.SharedOp.TheVariants as shared
-use Rattle.g_diagram.specs.declared.node.Tunnel.TheVariants.{Tunnel, Result, Index, Ref}
+use Rattle.g_diagram.specs.declared.node.Selector.TheVariants.{Number, Default}
+use Rattle.g_diagram.specs.declared.node.Tunnel.TheVariants.{Tunnel}
 use Rattle.g_diagram.specs.declared.panel.PanelItem.TheVariants.{Control, Indicator}
 use Rattle.g_diagram.specs.declared.place.Break.{Break}
 use Rattle.g_diagram.specs.Lines.{Wire, Entry}
 use Rattle.g_diagram.specs.Operands.{control_lines, entries_lines}
 use Rattle.g_diagram.specs.Ports.{Port, ports_in, ports_of, freedom, has_wire}
-use Rattle.g_diagram.proofs.Trees.{Sketch, vi_of, same_entries, Trees, Choices, none, also, Apply, Call, Case, For, While, Read, Write, Shared, InPlace, when, end}
+use Rattle.g_diagram.proofs.Trees.{Sketch, vi_of, same_entries, Trees, none, also, Apply, Call, Case, when, end}
 use Rattle.g_wires.specs.Wiring.{LeadsToItself}
-use Rattle.g_wires.specs.Breaks.{break, named_in, lined_by, renamed_vis, plain_breaks, absent_main}
-use Rattle.g_wires.specs.Lines.{known_of, arities, first_queue, queues_in}
+use Rattle.g_line_breaks.specs.Spots.{break}
+use Rattle.g_wires.specs.Breaks.{named_in, plain_breaks}
+use Rattle.g_line_breaks.specs.Lists.{lined_by, renamed_vis}
+use Rattle.g_line_breaks.specs.Lines.{known_of, arities, first_queue, queues_in}
 
 abbrev w : List ℕ → Wire
 w name = Some name
@@ -115,120 +115,3 @@ calling = sums (also (Call (codes "Main") (None ∷ []) (w (codes "w") ∷ w (co
 
 calling_broken : broken calling ≡ at 4 5 2 ∷ at 5 5 0 ∷ at 9 6 0 ∷ []
 calling_broken = ap (broken_by calling) (same_entries calling)
-
--- 5: inc a a -> w; bundle -> t; unbundle a -> _ _; enqueue a
-abbrev miscounts : Sketch
-miscounts = sums (also (Apply op.Inc (w (codes "a") ∷ w (codes "a") ∷ []) (w (codes "w") ∷ [])) (also (Apply op.Bundle [] (w (codes "t") ∷ []))
-    (also (Apply op.Unbundle (w (codes "a") ∷ []) (None ∷ None ∷ [])) (also (Shared shared.Enqueue (w (codes "a") ∷ []) []) none))))
-
-miscounts_broken : broken miscounts ≡ at 5 4 0 ∷ at 5 5 0 ∷ at 5 7 0 ∷ []
-miscounts_broken = ap (broken_by miscounts) (same_entries miscounts)
-
--- 7: control a i32 -> x; indicator b i32 <- x; indicator a i32 <- _; control b i32 -> _
-abbrev renames : Sketch
-renames = record {
-  name = codes "Main";
-  clones = NonReentrant;
-  system = Same;
-  panel = Control (codes "a") (Num I32) false None (w (codes "x")) ∷ Indicator (codes "b") (Num I32) (w (codes "x"))
-      ∷ Indicator (codes "a") (Num I32) None ∷ Control (codes "b") (Num I32) false None None ∷ [];
-  top = none;
-}
-
-renames_broken : broken renames ≡ at 7 3 0 ∷ at 7 4 0 ∷ []
-renames_broken = ap (broken_by renames) (same_entries renames)
-
--- 7: three VIs of one name
-renamed_twice : renamed_vis (vi_of straight ∷ vi_of half ∷ vi_of twice ∷ []) ≡ break 1 7 (record { line = 0; operand = 0 }) ∷ break 2 7 (record { line = 0; operand = 0 }) ∷ []
-renamed_twice = refl
-
--- 8: read b -> w; read r -> t; write a a; write c w
-abbrev locals : Sketch
-locals = sums (also (Read (codes "b") (w (codes "w"))) (also (Read (codes "r") (w (codes "t"))) (also (Write (codes "a") (w (codes "a"))) (also (Write (codes "c") (w (codes "w"))) none))))
-
-locals_broken : broken locals ≡ at 8 4 0 ∷ at 8 7 0 ∷ []
-locals_broken = ap (broken_by locals) (same_entries locals)
-
--- 10: case a with when 1, 4..6; when 9..7; when 8; when 5..7; when 7; when 2, 2; when default; when default. The second falls, and so has
--- no 8; the fourth has 5 again; the fifth has what a broken line has; the sixth repeats itself; and the last repeats the one before
-abbrev choosing : Trees → Trees
-choosing ts = add_to (w (codes "a")) (w (codes "a")) (w (codes "w")) (inc_to (w (codes "w")) (w (codes "t")) ts)
-
-abbrev when_only : List Selector → Choices → Choices
-when_only ss arms = when ss [] none arms
-
-abbrev reselects : Sketch
-reselects = sums (choosing (also (Case (w (codes "a")) []
-    (when_only (Number (pos 1) ∷ Range (pos 4) (pos 6) ∷ []) (when_only (Range (pos 9) (pos 7) ∷ []) (when_only (Number (pos 8) ∷ []) (when_only (Range (pos 5) (pos 7) ∷ [])
-    (when_only (Number (pos 7) ∷ []) (when_only (Number (pos 2) ∷ Number (pos 2) ∷ []) (when_only (Default ∷ []) (when_only (Default ∷ []) end))))))))) none))
-
-reselects_broken : broken reselects ≡ at 10 8 0 ∷ at 10 10 0 ∷ at 10 11 0 ∷ at 10 12 0 ∷ at 10 14 0 ∷ []
-reselects_broken = ap (broken_by reselects) (same_entries reselects)
-
--- values of each kind once: when TRUE, -1..3; when FALSE, "a"; when "ab", 4; when default
-abbrev selects : Sketch
-selects = sums (choosing (also (Case (w (codes "a")) []
-    (when_only (Truth true ∷ Range (negsuc 0) (pos 3) ∷ []) (when_only (Truth false ∷ Text (codes "a") ∷ []) (when_only (Text (codes "ab") ∷ Number (pos 4) ∷ []) (when_only (Default ∷ []) end))))) none))
-
-selects_broken : broken selects ≡ []
-selects_broken = ap (broken_by selects) (same_entries selects)
-
--- 11: case a; tunnel a -> x; result w; result t default; when 1; give _ _; when default; give x _; end
-abbrev results : Sketch
-results = sums (also (Case (w (codes "a")) (Tunnel (w (codes "a")) (w (codes "x")) ∷ Result (w (codes "w")) false ∷ Result (w (codes "t")) true ∷ [])
-    (when (Number (pos 1) ∷ []) (None ∷ None ∷ []) none (when (Default ∷ []) (w (codes "x") ∷ None ∷ []) none end))) none)
-
-results_broken : broken results ≡ at 11 9 1 ∷ at 11 7 1 ∷ []
-results_broken = ap (broken_by results) (same_entries results)
-
--- a result that is marked `default` may be unwired in a branch
-abbrev given : Sketch
-given = sums (also (Case (w (codes "a")) (Tunnel (w (codes "a")) (w (codes "x")) ∷ Result (w (codes "w")) false ∷ Result (w (codes "t")) true ∷ [])
-    (when (Number (pos 1) ∷ []) (w (codes "x") ∷ None ∷ []) none (when (Default ∷ []) (w (codes "x") ∷ w (codes "x") ∷ []) none end))) none)
-
-given_broken : broken given ≡ []
-given_broken = ap (broken_by given) (same_entries given)
-
--- 13: for _ -> _; do; end stands beside for _ -> _; index a -> x; do; inc x -> _; end, and for a -> _; do; end
-abbrev unbounded : Sketch
-unbounded = sums (add_to (w (codes "a")) (w (codes "a")) (w (codes "w")) (inc_to (w (codes "w")) (w (codes "t")) (also (For None None [] none)
-    (also (For None None (Index (w (codes "a")) (w (codes "x")) ∷ []) (inc_to (w (codes "x")) None none)) (also (For (w (codes "a")) None [] none) none)))))
-
-unbounded_broken : broken unbounded ≡ at 13 6 1 ∷ []
-unbounded_broken = ap (broken_by unbounded) (same_entries unbounded)
-
--- 12: inplace; ref a -> x | y -> _ _; ref a -> u | v -> _ _; do; inc x -> y; inc u -> v; read a -> _; inplace; ref x -> k | k -> _ _; do; end; end
-abbrev crowded : Sketch
-crowded = sums (add_to (w (codes "a")) (w (codes "a")) (w (codes "w")) (inc_to (w (codes "w")) (w (codes "t"))
-    (also (InPlace (Ref (w (codes "a")) (w (codes "x")) (w (codes "y")) None None ∷ Ref (w (codes "a")) (w (codes "u")) (w (codes "v")) None None ∷ [])
-    (inc_to (w (codes "x")) (w (codes "y")) (inc_to (w (codes "u")) (w (codes "v")) (also (Read (codes "a") None)
-    (also (InPlace (Ref (w (codes "x")) (w (codes "k")) (w (codes "k")) None None ∷ []) none) none))))) none)))
-
-crowded_broken : broken crowded ≡ at 12 12 0 ∷ at 12 8 0 ∷ at 12 14 0 ∷ []
-crowded_broken = ap (broken_by crowded) (same_entries crowded)
-
--- what stands in a loop that may not stand there isn't looked at, but for its `ref`: inplace; do; while s -> _; do; read a -> s; inplace;
--- ref s -> x | x -> _ _; do; read a -> _; end; end; end
-abbrev nested : Sketch
-nested = sums (choosing (also (InPlace []
-    (also (While (w (codes "s")) None []
-    (also (Read (codes "a") (w (codes "s"))) (also (InPlace (Ref (w (codes "s")) (w (codes "x")) (w (codes "x")) None None ∷ []) (also (Read (codes "a") None) none)) none))) none)) none))
-
-nested_broken : broken nested ≡ at 12 8 0 ∷ at 12 12 0 ∷ []
-nested_broken = ap (broken_by nested) (same_entries nested)
-
--- one ref, and a case in the body: inplace; ref a -> x | y -> _ _; do; inc x -> y; case x; tunnel x -> z; when default; inc z -> _; end; end
-abbrev modest : Sketch
-modest = sums (add_to (w (codes "a")) (w (codes "a")) (w (codes "w")) (inc_to (w (codes "w")) (w (codes "t"))
-    (also (InPlace (Ref (w (codes "a")) (w (codes "x")) (w (codes "y")) None None ∷ [])
-    (inc_to (w (codes "x")) (w (codes "y")) (also (Case (w (codes "x")) (Tunnel (w (codes "x")) (w (codes "z")) ∷ []) (when (Default ∷ []) [] (inc_to (w (codes "z")) None none) end)) none))) none)))
-
-modest_broken : broken modest ≡ []
-modest_broken = ap (broken_by modest) (same_entries modest)
-
--- 9: MAIN is the name of a VI or of none
-absent_there : absent_main (arities (vi_of straight ∷ [])) 1 (codes "Main") ≡ []
-absent_there = refl
-
-absent_not_there : absent_main (arities (vi_of straight ∷ [])) 1 (codes "Other") ≡ break 1 9 (record { line = 0; operand = 0 }) ∷ []
-absent_not_there = refl

@@ -7,11 +7,4 @@ pub mod Sorting
 pub mod Turning
 pub mod Cycling
 pub mod Codings
-pub mod NameLemmas
-pub mod Steps
-pub mod DiagramLemmas
-pub mod QueueLemmas
-pub mod RepeatLemmas
-pub mod ArityLemmas
-pub mod ClashLemmas
 mod Examples
