@@ -8,6 +8,8 @@ mod firsts;
 mod listed;
 mod marks;
 mod named;
+#[cfg(test)]
+mod tests;
 mod turns;
 
 pub use check::{BreakList, wiring};
