@@ -1,24 +1,29 @@
 -- The ports of a VI by numbers.
-use Rattle.std.proofs.Common.{◌≡◌, ℕ, ◌<◌, ◌^◌, Bool, List, ◌++◌, map, filter, refl, sym, ap, ◌∙◌, subst, arith}
+use Rattle.std.proofs.Common.{◌≡◌, ℕ, ◌<◌, ◌^◌, Bool, List, ◌++◌, map, refl, sym, ap, ◌∙◌, subst, append_assoc}
 use Rattle.std.specs.Prelude.{Option, Some, None, All}
-use Rattle.std.specs.List.{list_any}
 use Rattle.std.specs.BTreeMap.{btree_map_len}
 use Rattle.std.proofs.lemmas.List.Elements.{All-map}
 use denote.Ref.{Bor}
 use Rattle.g_diagram.specs.declared.hierarchy.Vi.{Vi}
-use Rattle.g_diagram.specs.Operands.{Freedom}
 use Rattle.g_diagram.specs.Ports as ports
 use Rattle.g_ports.specs.declared.port.Port.{Port}
 use Rattle.g_ports.specs.Seen.{seen}
 use Rattle.g_ports.specs.Callees as callees
 use Rattle.g_ports.specs.Callees.{required_in, flags_of, is_free_by, freedom_by}
 use Rattle.g_wires.specs.declared.coded.Coded.{Coded}
-use Rattle.g_wires.specs.Coding.{Table, IsBelow, number_at, number_of, wire_at, code_by, has_wire_of, Numbers}
+use Rattle.g_wires.specs.Coding.{Table, IsBelow, number_at, number_of, code_by, has_wire_of, Numbers}
 use Rattle.g_diagram.specs.declared.place.Break.{Break}
-use Rattle.g_wires.specs.Breaks.{named_in}
-use Rattle.g_wires.specs.Marks.{WireBelow, gives, is_marked, lacks_mark, coded_break}
+use Rattle.g_wires.specs.Breaks.{named_in, plain_in}
+use Rattle.g_line_breaks.specs.Lists.{lined_by}
+use Rattle.g_line_breaks.specs.Lines.{Known, Queues, known_of, arities, first_queue, all_queues}
+use Rattle.g_line_breaks.specs.Names as names
+use Rattle.g_line_breaks.specs.Names.{arity_in, queue_at, known_by}
+use Rattle.g_diagram.specs.declared.panel.PanelItem.{PanelItem}
+use Rattle.g_diagram.specs.Lines as lines
+use Rattle.g_diagram.specs.Lines.{entries_of}
+use Rattle.g_wires.specs.Marks.{WireBelow, coded_named}
 use Rattle.g_wires.specs.Checked.{IsCoding, TellsLines, ports_with}
-use Rattle.g_wires.proofs.Faithful.{unsourced_told, steps_same}
+use Rattle.g_wires.proofs.Faithful.{named_told, steps_same}
 
 below_at : (m : Table) → Numbers m → (d : ℕ) (w : Option (Bor (List ℕ))) → IsBelow (btree_map_len m) (number_of m d w)
 below_at m n d None = tt
@@ -37,7 +42,7 @@ is_coding m ps seen_ps cs count n all ec small e f =
     subst P (sym e) (subst Q f (record {
       small = small;
       wires = subst R (sym ec) (All-map (WireBelow (btree_map_len m)) (code_by m) ps (λ k d lt. below_at m n _ _));
-      breaks = unsourced_told m n ps all;
+      named = named_told m n ps all;
       steps = steps_same m n ps all;
     }))
 
@@ -51,13 +56,22 @@ ports_same m vis told =
     let free : freedom_by m ≡ ports.freedom vis = λ i name k. (ap (λ o. is_free_by o k) (told name) ∙ free_same vis name k (ports.first_vi vis name)) i in
     ap ports_with free
 
--- the breaks of rule 1 of one VI, added to others
-pub named_added : (ps : List ports.Port) (cs : List Coded) (count : ℕ) → IsCoding ps cs count → (vi : ℕ) (marks : List Bool) (xs : List Coded) (ms : List Bool) (ys : List Coded) (old new : List Break)
-    → xs ≡ cs → ms ≡ marks → ys ≡ cs → ((w : ℕ) → is_marked marks w ≡ list_any (gives w) xs) → new ≡ old ++ map (coded_break vi 1) (filter (lacks_mark ms) ys)
-    → new ≡ old ++ named_in ps vi
-named_added ps cs count coding vi marks xs ms ys old new ex em ey told e =
-    e ∙ ap (λ zs. old ++ map (coded_break vi 1) (filter (lacks_mark zs) ys)) em ∙ ap (λ zs. old ++ map (coded_break vi 1) (filter (lacks_mark marks) zs)) ey
-    ∙ ap (λ bs. old ++ bs) (coding.breaks marks (λ w. told w ∙ ap (list_any (gives w)) ex) vi)
+-- the breaks of one VI, added to others: those on names, and then those on lines
+pub plain_added : (ports : Vi → List ports.Port) (known : Known) (vi : Vi) (cs : List Coded) (count : ℕ) → IsCoding (ports vi) cs count → (number : ℕ) (xs : List Coded) (panel : List PanelItem) (es : List lines.Entry)
+    (old named new : List Break) → xs ≡ cs → panel ≡ vi.panel → es ≡ entries_of vi → named ≡ old ++ coded_named number xs → new ≡ named ++ lined_by known number panel es
+    → new ≡ old ++ plain_in ports known number vi
+plain_added ports known vi cs count coding number xs panel es old named new ex ep ee en e =
+    e ∙ ap (λ bs. bs ++ lined_by known number panel es) (en ∙ ap (λ zs. old ++ coded_named number zs) ex ∙ ap (λ bs. old ++ bs) (coding.named number))
+    ∙ append_assoc old (named_in (ports vi) number) (lined_by known number panel es)
+    ∙ ap (λ items. old ++ (named_in (ports vi) number ++ lined_by known number items es)) ep
+    ∙ ap (λ zs. old ++ (named_in (ports vi) number ++ lined_by known number vi.panel zs)) ee
+
+-- what is known of the listing
+pub known_same : (m : names.Table) (q : names.QueueTable) (vis : List Vi) → ((name : List ℕ) → arity_in m name ≡ arities vis name) → ((name : List ℕ) → queue_at q name ≡ first_queue (all_queues vis) name)
+    → known_by m q ≡ known_of vis
+known_same m q vis told named =
+    ap (λ (a : List ℕ → Option (ℕ × ℕ)). record { arities = a; queues = queue_at q }) (λ i name. told name i)
+    ∙ ap (λ (f : Queues). record { arities = arities vis; queues = f }) (λ i name. named name i)
 
 -- the lines of a VI, by marks
 pub lines_of_slices : (cs xs : List Coded) (marks ms : List Bool) → xs ≡ cs → ms ≡ marks → TellsLines xs marks → TellsLines cs ms

@@ -1,8 +1,7 @@
 -- The breaks of rule 6 put together.
 use Rattle.std.proofs.Common.{◌≡◌, ◌⊎◌, inl, inr, ⊎_elim, ℕ, zero, suc, ◌+◌, ◌<◌, ◌≤◌, ◌==◌, Bool, true, false, ◌&&◌, ◌||◌, List, [], ◌∷◌, ◌++◌, length, get_or, drop, append_assoc, refl, sym, ap, ◌∙◌, subst, arith}
 use Rattle.std.proofs.lemmas.List.{at_drop_more, at_drop_all}
-use Rattle.std.specs.Prelude.{Option, Some, None, slice_get}
-use Rattle.std.specs.List.{list_any}
+use Rattle.std.specs.Prelude.{Some, slice_get}
 use Rattle.std.specs.List.Sorted.{IsStrictlySortedBy}
 use Rattle.std.specs.declared.cmp.Ordering.{Ordering}
 use Rattle.std.specs.declared.cmp.Ordering.TheVariants.{Less, Equal, Greater}
@@ -17,8 +16,10 @@ use Rattle.g_diagram.specs.Ports.{Port, has_wire}
 use Rattle.g_diagram.specs.Leads.{Leads}
 use Rattle.g_wires.specs.declared.coded.Coded.{Coded}
 use Rattle.g_wires.specs.Wiring.{LeadsToItself}
-use Rattle.g_wires.specs.Breaks.{place_cmp, break_cmp, has_break, Cycles, named_in, named_from, BreaksBy, ListsEach}
-use Rattle.g_wires.specs.Marks.{is_marked, line_break, marked_from, coded_wire}
+use Rattle.g_wires.specs.Breaks.{place_cmp, break_cmp, has_break, Cycles, BreaksBy, ListsEach, plain_breaks, each_from}
+use Rattle.g_line_breaks.specs.Lists.{absent_main}
+use Rattle.g_line_breaks.specs.Lines.{Known}
+use Rattle.g_wires.specs.Marks.{line_break, marked_from, coded_wire}
 use Rattle.g_wires.specs.Checked.{TellsLines, IsCycle, AddsCycles, CyclesBelow}
 use Rattle.g_wires.proofs.Found.{or_left, or_right, or_cases, and_left, and_right, and_both, same_number, number_same}
 use Rattle.g_wires.proofs.Turning.{leads_same}
@@ -151,33 +152,33 @@ no_cycles ports vis bs e = record {
   each = λ b c lt. absurd (omega arith);
 }
 
-pub lists_each : (ports : Vi → List Port) (vis : List Vi) (named cycles all bs : List Break) → named ≡ named_from ports 0 vis → CyclesBelow ports vis (length vis) cycles
-    → all ≡ named ++ cycles → IsStrictlySortedBy break_cmp bs → ((b : Break) → has_break bs b ≡ has_break all b) → ListsEach (BreaksBy ports vis) bs
-lists_each ports vis named cycles all bs en ec ea order same = record {
+pub lists_each : (ports : Vi → List Port) (known : Known) (vis : List Vi) (main : List ℕ) (plain cycles all bs : List Break) → plain ≡ plain_breaks ports known vis ++ absent_main known.arities (length vis) main → CyclesBelow ports vis (length vis) cycles
+    → all ≡ plain ++ cycles → IsStrictlySortedBy break_cmp bs → ((b : Break) → has_break bs b ≡ has_break all b) → ListsEach (BreaksBy ports known vis main) bs
+lists_each ports known vis main plain cycles all bs en ec ea order same = record {
   ascending = order;
-  only = λ b h. ⊎_elim (λ x. inl (sym (ap (λ xs. has_break xs b) en) ∙ x)) (λ x. inr (ec.only b x)) (or_cases (has_break named b) (has_break cycles b) (sym (split b) ∙ h));
+  only = λ b h. ⊎_elim (λ x. inl (sym (ap (λ xs. has_break xs b) en) ∙ x)) (λ x. inr (ec.only b x)) (or_cases (has_break plain b) (has_break cycles b) (sym (split b) ∙ h));
   each = λ b p. split b ∙ ⊎_elim
-      (λ x. or_left (has_break named b) (has_break cycles b) (ap (λ xs. has_break xs b) en ∙ x))
-      (λ (c : Cycles ports vis b). or_right (has_break named b) (has_break cycles b) (ec.each b c (slice_get_within vis b.place.vi c.vi c.stands)))
+      (λ x. or_left (has_break plain b) (has_break cycles b) (ap (λ xs. has_break xs b) en ∙ x))
+      (λ (c : Cycles ports vis b). or_right (has_break plain b) (has_break cycles b) (ec.each b c (slice_get_within vis b.place.vi c.vi c.stands)))
       p;
 }
   where
-    split : (b : Break) → has_break bs b ≡ (has_break named b || has_break cycles b)
-    split b = same b ∙ ap (λ xs. has_break xs b) ea ∙ list_any-append (λ c. is_eq (break_cmp b c)) named cycles
+    split : (b : Break) → has_break bs b ≡ (has_break plain b || has_break cycles b)
+    split b = same b ∙ ap (λ xs. has_break xs b) ea ∙ list_any-append (λ c. is_eq (break_cmp b c)) plain cycles
 
 -- one more VI, as at a step of a loop
-pub named_more : (ports : Vi → List Port) (vis : List Vi) (i : ℕ) (vi : Vi) (number next : ℕ) (old new whole : List Break) → i < length vis → vi ≡ get_or vis i vi → next ≡ number + 1
-    → new ≡ old ++ named_in (ports vi) number → old ++ named_from ports number (drop i vis) ≡ whole → new ++ named_from ports next (drop (i + 1) vis) ≡ whole
-named_more ports vis i vi number next old new whole lt is en e h =
-    ap (λ bs. bs ++ named_from ports next (drop (i + 1) vis)) e ∙ append_assoc old (named_in (ports vi) number) (named_from ports next (drop (i + 1) vis))
-    ∙ ap (λ n. old ++ (named_in (ports vi) number ++ named_from ports n (drop (i + 1) vis))) en
-    ∙ ap (λ v. old ++ (named_in (ports v) number ++ named_from ports (number + 1) (drop (i + 1) vis))) is
-    ∙ ap (λ bs. old ++ bs) (sym (at_drop_more (named_from ports number) vis i vi lt)) ∙ h
+pub each_more : (f : ℕ → Vi → List Break) (vis : List Vi) (i : ℕ) (vi : Vi) (number next : ℕ) (old new whole : List Break) → i < length vis → vi ≡ get_or vis i vi → next ≡ number + 1
+    → new ≡ old ++ f number vi → old ++ each_from f number (drop i vis) ≡ whole → new ++ each_from f next (drop (i + 1) vis) ≡ whole
+each_more f vis i vi number next old new whole lt is en e h =
+    ap (λ bs. bs ++ each_from f next (drop (i + 1) vis)) e ∙ append_assoc old (f number vi) (each_from f next (drop (i + 1) vis))
+    ∙ ap (λ n. old ++ (f number vi ++ each_from f n (drop (i + 1) vis))) en
+    ∙ ap (λ v. old ++ (f number v ++ each_from f (number + 1) (drop (i + 1) vis))) is
+    ∙ ap (λ bs. old ++ bs) (sym (at_drop_more (each_from f number) vis i vi lt)) ∙ h
 
 nil_right : (bs : List Break) → bs ++ [] ≡ bs
 nil_right [] = refl
 nil_right (b ∷ bs) = ap (λ xs. b ∷ xs) (nil_right bs)
 
 -- after the last VI
-pub named_all : (ports : Vi → List Port) (vis : List Vi) (i number : ℕ) (named whole : List Break) → length vis ≤ i → named ++ named_from ports number (drop i vis) ≡ whole → named ≡ whole
-named_all ports vis i number named whole le h = sym (nil_right named) ∙ ap (λ bs. named ++ bs) (sym (at_drop_all (named_from ports number) vis i le)) ∙ h
+pub each_all : (f : ℕ → Vi → List Break) (vis : List Vi) (i number : ℕ) (plain whole : List Break) → length vis ≤ i → plain ++ each_from f number (drop i vis) ≡ whole → plain ≡ whole
+each_all f vis i number plain whole le h = sym (nil_right plain) ∙ ap (λ bs. plain ++ bs) (sym (at_drop_all (each_from f number) vis i le)) ∙ h

@@ -1,21 +1,23 @@
 -- Ports by numbers say what ports by names say.
-use Rattle.std.proofs.Common.{◌≡◌, ◌⊎◌, inl, inr, ⊎_elim, ℕ, ◌+◌, ◌<◌, ◌==◌, Bool, true, false, not, ◌&&◌, ◌||◌, cond, List, [], ◌∷◌, map, filter, refl, sym, ap, ◌∙◌, subst, arith}
-use Rattle.std.specs.Prelude.{Option, Some, None, All}
+use Rattle.std.proofs.Common.{◌≡◌, ℕ, ◌==◌, Bool, true, false, not, ◌&&◌, ◌||◌, cond, List, [], ◌∷◌, map, filter, refl, sym, ap, ◌∙◌, subst, arith}
+use Rattle.std.specs.Prelude.{Option, Some, None, is_some, ◌++◌, All}
 use Rattle.std.specs.List.{list_any}
 use Rattle.std.specs.Option.{IsSome}
 use Rattle.std.specs.Str.{bytes_eq}
 use Rattle.std.proofs.lemmas.List.Elements.{All-head, All-tail, All-weaker}
 use Rattle.std.proofs.lemmas.Slice.Eq.{bytes_eq-Decides}
 use denote.Ref.{Bor}
-use Rattle.g_diagram.specs.Ports.{are_joined, same_wire, is_wired, sources, consumers, has_wire, feeds, is_node}
+use Rattle.g_diagram.specs.Ports as spec
+use Rattle.g_diagram.specs.Ports.{are_joined, is_before, same_wire, is_wired, sources, consumers, has_wire, feeds, is_node}
 use Rattle.g_ports.specs.declared.port.Port.{Port}
 use Rattle.g_ports.specs.Seen.{seen, seen_wire}
 use Rattle.g_wires.specs.declared.coded.Coded.{Coded}
-use Rattle.g_wires.specs.Wiring.{lacks_source, unsourced, spot}
-use Rattle.g_wires.specs.Breaks.{break}
+use Rattle.g_wires.specs.Wiring.{lacks_source, is_repeated, lacks_consumer, is_missing, unsourced, repeated, unused, spot}
+use Rattle.g_line_breaks.specs.Spots.{break}
+use Rattle.g_wires.specs.Breaks.{named_in}
 use Rattle.g_wires.specs.Coding.{Table, number_at, number_of, wire_at, code_by, is_numbered, has_wire_of, Numbers}
-use Rattle.g_wires.specs.Marks.{is_number, is_marked, is_unmarked, lacks_mark, coded_break, gives, same_number_of, coded_feeds, coded_wire}
-use Rattle.g_wires.proofs.Found.{any_filter, any_same, filter_same, and_left, and_right, and_both, same_number, number_same}
+use Rattle.g_wires.specs.Marks.{is_number, gives, takes, gives_before, is_ungiven, is_untaken, is_given_before, has_no_source, is_later_source, has_no_consumer, has_no_wire, coded_break, coded_breaks, coded_named, same_number_of, coded_feeds, coded_wire}
+use Rattle.g_wires.proofs.Found.{any_filter, filter_same, and_left, and_right, and_both, same_number}
 
 same_bool : (a b : Bool) → (a ≡ true → b ≡ true) → (b ≡ true → a ≡ true) → a ≡ b
 same_bool true b f g = sym (f refl)
@@ -70,43 +72,103 @@ node_same : (o : Option ℕ) (n : ℕ) → is_number o n ≡ is_node o n
 node_same None n = refl
 node_same (Some k) n = refl
 
+and_swap : (a b c : Bool) → (a && (b && c)) ≡ (b && (a && c))
+and_swap true b c = refl
+and_swap false true c = refl
+and_swap false false c = refl
+
+and_all : (b : Bool) → (b && true) ≡ b
+and_all true = refl
+and_all false = refl
+
+as_shared : (o : Option ℕ) (v : ℕ) → is_number o v ≡ same_number_of o (Some v)
+as_shared None v = refl
+as_shared (Some u) v = refl
+
+shared_back : (o : Option ℕ) (v : ℕ) → is_number o v ≡ same_number_of (Some v) o
+shared_back None v = refl
+shared_back (Some u) v = same_bool (u == v) (v == u) (λ e. let f : u ≡ v = same_number u v e in grind (arith, f)) (λ e. let f : v ≡ u = same_number v u e in grind (arith, f))
+
 module _ (m : Table) (numbers : Numbers m) (ports : List Port) (all : All (has_wire_of m) ports) where
-  -- rule 1
-  given : (p : Port) (v : ℕ) → has_wire_of m p → wire_at m p ≡ Some v → list_any (gives v) (map (code_by m) ports) ≡ list_any (λ s. are_joined s (seen p)) (sources (map seen ports))
+  abbrev coded : List Coded
+  coded = map (code_by m) ports
+
+  abbrev named : List spec.Port
+  named = map seen ports
+
+  -- a test of the wire's number that fails without one
+  wired_same : (p : Port) → has_wire_of m p → (f : Option ℕ → Bool) → f None ≡ false → (r : Bool) → ((v : ℕ) → wire_at m p ≡ Some v → f (Some v) ≡ r) → f (wire_at m p) ≡ (is_wired (seen p) && r)
+  wired_same p hp f none r told = at p.wire (wire_at m p) refl hp refl
+    where
+      at : (w : Option (Bor (List ℕ))) (o : Option ℕ) → p.wire ≡ w → is_numbered m p.diagram w → number_of m p.diagram w ≡ o → f (number_of m p.diagram w) ≡ (is_some (seen_wire w) && r)
+      at None o e h k = none
+      at (Some a) None e h k = let P : Option ℕ → Type 0 = IsSome in let no_number : IsSome {T = ℕ} None = subst P k h in cc
+      at (Some a) (Some v) e h k = ap f k ∙ told v (ap (number_of m p.diagram) e ∙ k)
+
+  -- 1
+  given : (p : Port) (v : ℕ) → has_wire_of m p → wire_at m p ≡ Some v → list_any (gives v) coded ≡ list_any (λ s. are_joined s (seen p)) (sources named)
   given p v hp e =
       any_both (code_by m) seen (gives v) (λ s. s.is_source && are_joined s (seen p)) ports
       (All-weaker (has_wire_of m) (λ q. gives v (code_by m q) ≡ (q.is_source && are_joined (seen q) (seen p)))
-      (λ q hq. ap (λ b. q.is_source && b) (one (wire_at m q) ∙ ap (same_number_of (wire_at m q)) (sym e) ∙ joined m numbers q p hq hp)) ports all)
-      ∙ sym (any_filter (λ s. are_joined s (seen p)) (λ s. s.is_source) (map seen ports))
-    where
-      one : (o : Option ℕ) → is_number o v ≡ same_number_of o (Some v)
-      one None = refl
-      one (Some u) = refl
+      (λ q hq. ap (λ b. q.is_source && b) (as_shared (wire_at m q) v ∙ ap (same_number_of (wire_at m q)) (sym e) ∙ joined m numbers q p hq hp)) ports all)
+      ∙ sym (any_filter (λ s. are_joined s (seen p)) (λ s. s.is_source) named)
 
-  pub marks_tell : (marks : List Bool) → ((w : ℕ) → is_marked marks w ≡ list_any (gives w) (map (code_by m) ports)) → (p : Port) → has_wire_of m p
-      → lacks_mark marks (code_by m p) ≡ (not p.is_source && lacks_source (map seen ports) (seen p))
-  marks_tell marks told p hp = ap (λ b. not p.is_source && b) (at p.wire (wire_at m p) refl hp refl)
-    where
-      at : (w : Option (Bor (List ℕ))) (o : Option ℕ) → p.wire ≡ w → is_numbered m p.diagram w → number_of m p.diagram w ≡ o
-          → is_unmarked marks (number_of m p.diagram w) ≡ (is_wired (record { line = 0; operand = 0; diagram = 0; node = None; is_source = false; is_free = false; wire = seen_wire w }) && not (list_any (λ s. are_joined s (seen p)) (sources (map seen ports))))
-      at None o e h k = refl
-      at (Some a) None e h k = let P : Option ℕ → Type 0 = IsSome in let none : IsSome {T = ℕ} None = subst P k h in cc
-      at (Some a) (Some v) e h k = ap (is_unmarked marks) k ∙ ap not (told v ∙ given p v hp (ap (number_of m p.diagram) e ∙ k))
+  source_told : (p : Port) → has_wire_of m p → has_no_source coded (code_by m p) ≡ (not p.is_source && lacks_source named (seen p))
+  source_told p hp = ap (λ b. not p.is_source && b) (wired_same p hp (is_ungiven coded) refl (not (list_any (λ s. are_joined s (seen p)) (sources named))) (λ v e. ap not (given p v hp e)))
 
-  pub unsourced_told : (marks : List Bool) → ((w : ℕ) → is_marked marks w ≡ list_any (gives w) (map (code_by m) ports)) → (vi : ℕ)
-      → map (coded_break vi 1) (filter (lacks_mark marks) (map (code_by m) ports)) ≡ map (break vi 1) (unsourced (map seen ports))
-  unsourced_told marks told vi =
-      let T : Port → Bool = λ p. not p.is_source && lacks_source (map seen ports) (seen p) in
-      ap (map (coded_break vi 1)) (filter_same (code_by m) (lacks_mark marks) T ports (All-weaker (has_wire_of m) (λ p. lacks_mark marks (code_by m p) ≡ T p) (marks_tell marks told) ports all))
-      ∙ same_breaks (filter T ports)
-      ∙ ap (λ ps. map (break vi 1) (map spot ps)) (sym (filter_same seen (λ s. not s.is_source && lacks_source (map seen ports) s) T ports (All-refl ports)) ∙ sym (filter_twice (lacks_source (map seen ports)) (λ s. not s.is_source) (map seen ports)))
-    where
-      same_breaks : (ps : List Port) → map (coded_break vi 1) (map (code_by m) ps) ≡ map (break vi 1) (map spot (map seen ps))
-      same_breaks [] = refl
-      same_breaks (p ∷ ps) = ap (λ bs. coded_break vi 1 (code_by m p) ∷ bs) (same_breaks ps)
+  -- 2
+  given_before : (p : Port) (v : ℕ) → has_wire_of m p → wire_at m p ≡ Some v → list_any (gives_before v (code_by m p)) coded ≡ list_any (λ s. is_before s (seen p) && are_joined s (seen p)) (sources named)
+  given_before p v hp e =
+      any_both (code_by m) seen (gives_before v (code_by m p)) (λ s. s.is_source && (is_before s (seen p) && are_joined s (seen p))) ports
+      (All-weaker (has_wire_of m) (λ q. gives_before v (code_by m p) (code_by m q) ≡ (q.is_source && (is_before (seen q) (seen p) && are_joined (seen q) (seen p))))
+      (λ q hq. ap (λ b. q.is_source && (is_before (seen q) (seen p) && b)) (as_shared (wire_at m q) v ∙ ap (same_number_of (wire_at m q)) (sym e) ∙ joined m numbers q p hq hp)) ports all)
+      ∙ sym (any_filter (λ s. is_before s (seen p) && are_joined s (seen p)) (λ s. s.is_source) named)
 
-      All-refl : (ps : List Port) → All (λ p. (not p.is_source && lacks_source (map seen ports) (seen p)) ≡ (not p.is_source && lacks_source (map seen ports) (seen p))) ps
-      All-refl ps = λ k d lt. refl
+  repeat_told : (p : Port) → has_wire_of m p → is_later_source coded (code_by m p) ≡ (p.is_source && is_repeated named (seen p))
+  repeat_told p hp = ap (λ b. p.is_source && b) (wired_same p hp (is_given_before coded (code_by m p)) refl (list_any (λ s. is_before s (seen p) && are_joined s (seen p)) (sources named)) (λ v e. given_before p v hp e))
+
+  -- 3
+  taken : (p : Port) (v : ℕ) → has_wire_of m p → wire_at m p ≡ Some v → list_any (takes v) coded ≡ list_any (λ c. are_joined (seen p) c) (consumers named)
+  taken p v hp e =
+      any_both (code_by m) seen (takes v) (λ c. not c.is_source && are_joined (seen p) c) ports
+      (All-weaker (has_wire_of m) (λ q. takes v (code_by m q) ≡ (not q.is_source && are_joined (seen p) (seen q)))
+      (λ q hq. ap (λ b. not q.is_source && b) (shared_back (wire_at m q) v ∙ ap (λ o. same_number_of o (wire_at m q)) (sym e) ∙ joined m numbers p q hp hq)) ports all)
+      ∙ sym (any_filter (λ c. are_joined (seen p) c) (λ c. not c.is_source) named)
+
+  consumer_told : (p : Port) → has_wire_of m p → has_no_consumer coded (code_by m p) ≡ (p.is_source && lacks_consumer named (seen p))
+  consumer_told p hp = ap (λ b. p.is_source && b)
+      (ap (λ b. not p.is_free && b) (wired_same p hp (is_untaken coded) refl (not (list_any (λ c. are_joined (seen p) c) (consumers named))) (λ v e. ap not (taken p v hp e)))
+      ∙ and_swap (not p.is_free) (is_wired (seen p)) (not (list_any (λ c. are_joined (seen p) c) (consumers named))))
+
+  -- 4
+  missing_told : (p : Port) → has_wire_of m p → has_no_wire (code_by m p) ≡ (not p.is_source && is_missing (seen p))
+  missing_told p hp = ap (λ b. not p.is_source && (not b && not p.is_free)) (wired_same p hp is_some refl true (λ v e. refl) ∙ and_all (is_wired (seen p)))
+
+  same_breaks : (vi rule : ℕ) (ps : List Port) → map (coded_break vi rule) (map (code_by m) ps) ≡ map (break vi rule) (map spot (map seen ps))
+  same_breaks vi rule [] = refl
+  same_breaks vi rule (p ∷ ps) = ap (λ bs. coded_break vi rule (code_by m p) ∷ bs) (same_breaks vi rule ps)
+
+  -- the breaks of one rule: a test of the ports on one side
+  told_same : (vi rule : ℕ) (test : Coded → Bool) (side broken : spec.Port → Bool) → ((p : Port) → has_wire_of m p → test (code_by m p) ≡ (side (seen p) && broken (seen p)))
+      → coded_breaks vi rule test coded ≡ map (break vi rule) (map spot (filter broken (filter side named)))
+  told_same vi rule test side broken told =
+      let T : Port → Bool = λ p. side (seen p) && broken (seen p) in
+      ap (map (coded_break vi rule)) (filter_same (code_by m) test T ports (All-weaker (has_wire_of m) (λ p. test (code_by m p) ≡ T p) told ports all))
+      ∙ same_breaks vi rule (filter T ports)
+      ∙ ap (λ ps. map (break vi rule) (map spot ps)) (sym (filter_same seen (λ s. side s && broken s) T ports (λ k d lt. refl)) ∙ sym (filter_twice broken side named))
+
+  pub named_told : (vi : ℕ) → coded_named vi (map (code_by m) ports) ≡ named_in (map seen ports) vi
+  named_told vi =
+      let sourced : spec.Port → Bool = λ p. p.is_source in
+      let consuming : spec.Port → Bool = λ p. not p.is_source in
+      let one = told_same vi 1 (has_no_source coded) consuming (lacks_source named) source_told in
+      let two = told_same vi 2 (is_later_source coded) sourced (is_repeated named) repeat_told in
+      let three = told_same vi 3 (has_no_consumer coded) sourced (lacks_consumer named) consumer_told in
+      let four = told_same vi 4 has_no_wire consuming is_missing missing_told in
+      ap (λ bs. bs ++ (coded_breaks vi 2 (is_later_source coded) coded ++ (coded_breaks vi 3 (has_no_consumer coded) coded ++ coded_breaks vi 4 has_no_wire coded))) one
+      ∙ ap (λ bs. map (break vi 1) (unsourced named) ++ (bs ++ (coded_breaks vi 3 (has_no_consumer coded) coded ++ coded_breaks vi 4 has_no_wire coded))) two
+      ∙ ap (λ bs. map (break vi 1) (unsourced named) ++ (map (break vi 2) (repeated named) ++ (bs ++ coded_breaks vi 4 has_no_wire coded))) three
+      ∙ ap (λ bs. map (break vi 1) (unsourced named) ++ (map (break vi 2) (repeated named) ++ (map (break vi 3) (unused named) ++ bs))) four
 
   -- rule 6
   feeds_same : (a b : ℕ) (s c : Port) → has_wire_of m s → has_wire_of m c → coded_feeds a b (code_by m s) (code_by m c) ≡ feeds a b (seen s) (seen c)

@@ -1,12 +1,12 @@
 -- Which lines lead to themselves, by marks.
-use Rattle.std.proofs.Common.{◌≡◌, ◌⊎◌, inl, inr, ⊎_elim, ℕ, zero, suc, ◌+◌, ◌<◌, ◌≤◌, Bool, true, false, List, length, take, get_or, refl, sym, ap, ◌∙◌, subst, arith}
+use Rattle.std.proofs.Common.{◌≡◌, ℕ, zero, suc, ◌+◌, ◌<◌, Bool, false, List, length, take, get_or, sym, ap, ◌∙◌, arith}
 use Rattle.std.specs.Prelude.{All}
 use Rattle.std.specs.List.{list_any}
 use Rattle.std.proofs.lemmas.List.{length-take-le, get_or-take}
 use Rattle.g_diagram.specs.Leads.{Walk, Leads}
 use Rattle.g_graph.specs.Graph.{Graph, TellsCycles, has_edge}
 use Rattle.g_wires.specs.declared.coded.Coded.{Coded}
-use Rattle.g_wires.specs.Marks.{NodeBelow, is_edge, coded_wire}
+use Rattle.g_wires.specs.Marks.{NodeBelow, is_edge}
 use Rattle.g_wires.specs.Checked.{TellsLines}
 use Rattle.g_wires.proofs.Bipartite.{wires_lead, edges_lead, lead_below}
 

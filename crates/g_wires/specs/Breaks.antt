@@ -1,5 +1,5 @@
 -- What is broken in a hierarchy, and the list of it.
-use Rattle.std.specs.Prelude.{ℕ, ◌≡◌, ◌⊎◌, ◌+◌, IsTrue, Bool, List, [], ◌∷◌, ◌++◌, map, Some, slice_get}
+use Rattle.std.specs.Prelude.{ℕ, ◌≡◌, ◌⊎◌, ◌+◌, IsTrue, Bool, List, [], ◌∷◌, ◌++◌, map, length, Some, slice_get}
 use Rattle.std.specs.List.{list_any}
 use Rattle.std.specs.List.Sorted.{IsStrictlySortedBy}
 use Rattle.std.specs.declared.cmp.Ordering.{Ordering}
@@ -8,11 +8,12 @@ use Rattle.g_diagram.specs.declared.place.Break.{Break}
 use Rattle.g_diagram.specs.declared.place.Place.{Place}
 use Rattle.g_diagram.specs.declared.hierarchy.Vi.{Vi}
 use Rattle.g_diagram.specs.declared.hierarchy.Hierarchy.{Hierarchy}
+use Rattle.g_diagram.specs.Lines.{entries_of}
 use Rattle.g_diagram.specs.Ports.{Port, ports_of}
-use Rattle.g_wires.specs.Wiring.{Spot, unsourced, LeadsToItself}
-
-abbrev pub break : (vi rule : ℕ) → Spot → Break
-break vi rule s = record { place = record { vi = vi; line = s.line; operand = s.operand }; rule = rule }
+use Rattle.g_line_breaks.specs.Spots.{break}
+use Rattle.g_line_breaks.specs.Lines.{Known, known_of}
+use Rattle.g_line_breaks.specs.Lists.{lined_by, renamed_vis, absent_main}
+use Rattle.g_wires.specs.Wiring.{unsourced, repeated, unused, unwired, LeadsToItself}
 
 -- places are ordered by VI, line and operand, and breaks by place and then rule
 abbrev pub place_cmp : Place → Place → Ordering
@@ -25,14 +26,23 @@ break_cmp a b = ordering_then (place_cmp a.place b.place) (nat_cmp a.rule b.rule
 abbrev pub has_break : List Break → Break → Bool
 has_break bs b = list_any (λ c. is_eq (break_cmp b c)) bs
 
--- the breaks of one VI with these ports, but for those of rule 6
+-- the breaks on names of one VI with these ports
 abbrev pub named_in : List Port → (number : ℕ) → List Break
-named_in ps number = map (break number 1) (unsourced ps)
+named_in ps number =
+    map (break number 1) (unsourced ps) ++ (map (break number 2) (repeated ps) ++ (map (break number 3) (unused ps) ++ map (break number 4) (unwired ps)))
 
--- those of all VIs, from one on
-abbrev pub named_from : (ports : Vi → List Port) → (number : ℕ) → List Vi → List Break
-named_from ports number [] = []
-named_from ports number (vi ∷ more) = named_in (ports vi) number ++ named_from ports (number + 1) more
+-- the breaks of one VI, but for those of rule 6
+abbrev pub plain_in : (ports : Vi → List Port) → Known → (number : ℕ) → Vi → List Break
+plain_in ports known number vi = named_in (ports vi) number ++ lined_by known number vi.panel (entries_of vi)
+
+-- what stands at each VI, from one on
+abbrev pub each_from : (ℕ → Vi → List Break) → (number : ℕ) → List Vi → List Break
+each_from f number [] = []
+each_from f number (vi ∷ more) = f number vi ++ each_from f (number + 1) more
+
+-- the breaks of all VIs, but for those of rule 6
+abbrev pub plain_breaks : (ports : Vi → List Port) → Known → List Vi → List Break
+plain_breaks ports known vis = each_from (plain_in ports known) 0 vis ++ renamed_vis vis
 
 -- a break of rule 6: the line itself
 pub record Cycles (ports : Vi → List Port) (vis : List Vi) (b : Break) : Type 0 where
@@ -42,13 +52,13 @@ pub record Cycles (ports : Vi → List Port) (vis : List Vi) (b : Break) : Type 
   pub whole : b.place.operand ≡ 0
   pub rule : b.rule ≡ 6
 
--- what is broken, where VIs have these ports
-abbrev pub BreaksBy : (ports : Vi → List Port) → List Vi → Break → Type 0
-BreaksBy ports vis b = IsTrue (has_break (named_from ports 0 vis) b) ⊎ Cycles ports vis b
+-- what is broken, where VIs have these ports and this is known of the listing
+abbrev pub BreaksBy : (ports : Vi → List Port) → Known → List Vi → (main : List ℕ) → Break → Type 0
+BreaksBy ports known vis main b = IsTrue (has_break (plain_breaks ports known vis ++ absent_main known.arities (length vis) main) b) ⊎ Cycles ports vis b
 
--- what is broken of rules 1 and 6
-abbrev pub WiringBreak : Hierarchy → Break → Type 0
-WiringBreak h b = BreaksBy (ports_of h.vis) h.vis b
+-- what is broken of rules 1 to 14
+abbrev pub WiringBreak : Hierarchy → (main : List ℕ) → Break → Type 0
+WiringBreak h main b = BreaksBy (ports_of h.vis) (known_of h.vis) h.vis main b
 
 -- the list of exactly what is broken: strictly ascending
 pub record ListsEach (P : Break → Type 0) (bs : List Break) : Type 0 where
@@ -57,5 +67,5 @@ pub record ListsEach (P : Break → Type 0) (bs : List Break) : Type 0 where
   pub each : (b : Break) → P b → IsTrue (has_break bs b)
 
 -- what `wiring` gives
-abbrev pub IsWiring : Hierarchy → List Break → Type 0
-IsWiring h bs = ListsEach (WiringBreak h) bs
+abbrev pub IsWiring : Hierarchy → (main : List ℕ) → List Break → Type 0
+IsWiring h main bs = ListsEach (WiringBreak h main) bs

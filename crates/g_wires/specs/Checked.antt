@@ -1,6 +1,5 @@
 -- What the checks of one VI say, which the list of all is put together from.
-use Rattle.std.specs.Prelude.{ℕ, ◌≡◌, ◌⊎◌, ◌<◌, ◌^◌, Bool, true, List, ◌++◌, map, filter, length, All}
-use Rattle.std.specs.List.{list_any}
+use Rattle.std.specs.Prelude.{ℕ, ◌≡◌, ◌⊎◌, ◌<◌, ◌^◌, Bool, true, List, ◌++◌, length, All}
 use Rattle.g_diagram.specs.declared.place.Break.{Break}
 use Rattle.g_diagram.specs.declared.hierarchy.Vi.{Vi}
 use Rattle.g_diagram.specs.Lines.{entries_of}
@@ -8,9 +7,9 @@ use Rattle.g_diagram.specs.Operands.{Freedom, control_lines, entries_lines}
 use Rattle.g_diagram.specs.Ports.{Port, ports_in, has_wire}
 use Rattle.g_diagram.specs.Leads.{Leads}
 use Rattle.g_wires.specs.declared.coded.Coded.{Coded}
-use Rattle.g_wires.specs.Wiring.{unsourced, LeadsToItself}
-use Rattle.g_wires.specs.Breaks.{break, has_break, Cycles}
-use Rattle.g_wires.specs.Marks.{WireBelow, gives, is_marked, lacks_mark, coded_break, coded_wire}
+use Rattle.g_wires.specs.Wiring.{LeadsToItself}
+use Rattle.g_wires.specs.Breaks.{named_in, has_break, Cycles}
+use Rattle.g_wires.specs.Marks.{WireBelow, is_marked, coded_named, coded_wire}
 
 -- the ports of a VI where these inputs of calls are free
 abbrev pub ports_with : Freedom → Vi → List Port
@@ -20,7 +19,7 @@ ports_with free vi = ports_in (control_lines 1 vi.panel ++ entries_lines free (e
 pub record IsCoding (ps : List Port) (cs : List Coded) (count : ℕ) : Type 0 where
   pub small : count < 2 ^ 63
   pub wires : All (WireBelow count) cs
-  pub breaks : (marks : List Bool) → ((w : ℕ) → is_marked marks w ≡ list_any (gives w) cs) → (vi : ℕ) → map (coded_break vi 1) (filter (lacks_mark marks) cs) ≡ map (break vi 1) (unsourced ps)
+  pub named : (vi : ℕ) → coded_named vi cs ≡ named_in ps vi
   pub steps : (a b : ℕ) → coded_wire cs a b ≡ has_wire ps a b
 
 -- of each line, whether it leads to itself

@@ -1,14 +1,9 @@
--- The rules on names and lines alone. Of each rule: the places of a VI at which it is broken, as the items that it looks at and a test.
+-- The rules on the names of wires. Of each rule: the places of a VI at which it is broken, as the items that it looks at and a test.
 use Rattle.std.specs.Prelude.{ℕ, Bool, not, ◌&&◌, List, map, filter}
 use Rattle.std.specs.List.{list_any}
-use Rattle.g_diagram.specs.declared.hierarchy.Vi.{Vi}
 use Rattle.g_diagram.specs.Ports.{Port, sources, consumers, are_joined, is_wired, is_before, has_wire}
 use Rattle.g_diagram.specs.Leads.{Leads}
-
--- a place in a VI: its line and operand
-pub record Spot : Type 0 where
-  pub line : ℕ
-  pub operand : ℕ
+use Rattle.g_line_breaks.specs.Spots.{Spot}
 
 abbrev pub spot : Port → Spot
 spot p = record { line = p.line; operand = p.operand }

@@ -3,17 +3,24 @@
 ghost use Rattle.std.specs.Prelude.{◌≡◌, ◌<◌, ◌^◌, ◌++◌, length, map, IfOk, OnOk, All};
 ghost use Rattle.std.specs.BTreeMap.{btree_map_len};
 ghost use Rattle.g_ports.specs.Callees.{freedom_by};
-ghost use Rattle.g_wires.specs.Breaks.{IsWiring, named_in, named_from};
+ghost use Rattle.g_diagram.specs.Lines.{entries_of};
+ghost use Rattle.g_table.specs.Seen as table;
+ghost use Rattle.g_wires.specs.Breaks.{IsWiring, plain_in, each_from};
 ghost use Rattle.g_wires.specs.Checked.{ports_with, IsCoding, AddsCycles, CyclesBelow};
+ghost use Rattle.g_line_breaks.specs.Names.{known_by};
 
 use crate::coded::{Coded, code_all, wire_numbers};
 use crate::listed::listed;
-use crate::marks::{mark_sources, push_unsourced};
-use crate::turns::{next, push_marked, turning_lines};
+use crate::named::push_named;
+use crate::turns::{push_marked, turning_lines};
 use g_diagram::{Break, Hierarchy, Vi};
+use g_line_breaks::arities::{Arities, arities};
+use g_line_breaks::queues::{Queues, queues};
+use g_line_breaks::{next, push_absent, push_lined, push_vi_repeats};
 use g_lists::List;
 use g_ports::ports::ports_of;
 use g_ports::{Callees, callees};
+use g_table::Entry;
 use g_table::table::table;
 use g_types::Name;
 use std::alloc::{AllocError, Global};
@@ -28,12 +35,17 @@ struct CodedPorts {
     count: usize,
 }
 
-/// The ports of a VI, with its wires by numbers.
-fn coded_ports(alloc: Global, callees: &Callees<'_>, vi: &Vi) -> Result<CodedPorts, AllocError>
+/// The ports of a VI with these nodes, with its wires by numbers.
+fn coded_ports(
+    alloc: Global,
+    callees: &Callees<'_>,
+    vi: &Vi,
+    entries: &[Entry<'_>],
+) -> Result<CodedPorts, AllocError>
+    requires { map table.seen entries.now ≡ entries_of vi.now }
     ensures { IfOk result (λ coded. IsCoding (ports_with (freedom_by callees.now) vi.now) coded.ports.items coded.count) }
 {
-    let entries = table(alloc, vi)?;
-    let ports = ports_of(alloc, callees, vi, entries.as_slice())?;
+    let ports = ports_of(alloc, callees, vi, entries)?;
     let numbers = wire_numbers(alloc, ports.as_slice())?;
     let coded = code_all(alloc, &numbers, ports.as_slice())?;
     Ok(CodedPorts {
@@ -42,31 +54,49 @@ fn coded_ports(alloc: Global, callees: &Callees<'_>, vi: &Vi) -> Result<CodedPor
     })
 }
 
-/// What was found so far: the breaks of rule 1, and those of rule 6.
+/// What the rules on one VI need to know of the whole listing.
+#[derive(Drop)]
+struct Known<'a> {
+    callees: Callees<'a>,
+    arities: Arities<'a>,
+    queues: Queues<'a>,
+}
+
+/// What was found so far: the breaks of rule 6, and the others.
 #[derive(Drop)]
 struct Findings {
-    named: Vec<Break>,
+    plain: Vec<Break>,
     cycles: Vec<Break>,
 }
 
 /// Adds the breaks of a VI.
 fn check_vi(
     alloc: Global,
-    callees: &Callees<'_>,
+    known: &Known<'_>,
     number: u32,
     vi: &Vi,
     found: &mut Findings,
 ) -> Result<(), AllocError>
-    ensures named { OnOk result (found.new.named.items ≡ found.old.named.items ++ named_in (ports_with (freedom_by callees.now) vi.now) number) }
-    ensures cycles { OnOk result (AddsCycles number (ports_with (freedom_by callees.now) vi.now) found.old.cycles.items found.new.cycles.items) }
+    ensures plain { OnOk result (found.new.plain.items ≡ found.old.plain.items ++ plain_in (ports_with (freedom_by known.now.callees)) (known_by known.now.arities known.now.queues) number vi.now) }
+    ensures cycles { OnOk result (AddsCycles number (ports_with (freedom_by known.now.callees) vi.now) found.old.cycles.items found.new.cycles.items) }
 {
-    let coded = coded_ports(alloc, callees, vi)?;
-    let marks = mark_sources(alloc, coded.count, coded.ports.as_slice())?;
-    push_unsourced(
+    let entries = table(alloc, vi)?;
+    let coded = coded_ports(alloc, &known.callees, vi, entries.as_slice())?;
+    push_named(
+        alloc,
         number,
-        marks.as_slice(),
+        coded.count,
         coded.ports.as_slice(),
-        &mut found.named,
+        &mut found.plain,
+    )?;
+    push_lined(
+        alloc,
+        &known.arities,
+        &known.queues,
+        number,
+        vi.panel.as_slice(),
+        entries.as_slice(),
+        &mut found.plain,
     )?;
     let turning = turning_lines(alloc, coded.count, coded.ports.as_slice())?;
     push_marked(number, turning.as_slice(), &mut found.cycles)?;
@@ -74,33 +104,59 @@ fn check_vi(
 }
 
 /// The breaks of all VIs.
-fn check_vis(alloc: Global, callees: &Callees<'_>, vis: &[Vi]) -> Result<Findings, AllocError>
-    ensures named { IfOk result (λ found. found.named.items ≡ named_from (ports_with (freedom_by callees.now)) 0 vis.now) }
-    ensures cycles { IfOk result (λ found. CyclesBelow (ports_with (freedom_by callees.now)) vis.now (length vis.now) found.cycles.items) }
+fn check_vis(alloc: Global, known: &Known<'_>, vis: &[Vi]) -> Result<Findings, AllocError>
+    ensures plain { IfOk result (λ found. found.plain.items ≡ each_from (plain_in (ports_with (freedom_by known.now.callees)) (known_by known.now.arities known.now.queues)) 0 vis.now) }
+    ensures cycles { IfOk result (λ found. CyclesBelow (ports_with (freedom_by known.now.callees)) vis.now (length vis.now) found.cycles.items) }
 {
     let mut found = Findings {
-        named: Vec::new(alloc),
+        plain: Vec::new(alloc),
         cycles: Vec::new(alloc),
     };
     let mut number = 0;
     for vi in vis {
-        check_vi(alloc, callees, number, vi, &mut found)?;
+        check_vi(alloc, known, number, vi, &mut found)?;
         number = next(number)?;
     }
     Ok(found)
 }
 
-/// All breaks of rules 1 and 6, strictly ascending by VI, line, operand and rule: each consumer whose
-/// name has no source in its diagram, and each node from which wires of its diagram lead to itself.
+/// All breaks of rules 1 to 14, strictly ascending by VI, line, operand and rule:
+///
+/// 1. each consumer whose name has no source in its diagram;
+/// 2. each source whose name has a source before it in its diagram;
+/// 3. each source whose name has no consumer in its diagram, but for a case's tunnel;
+/// 4. each unwired consumer, but for a call's input whose control isn't required, an indicator, the count
+///    of a `for`, `register _` and `give`;
+/// 5. each line with another number of inputs or outputs than its operation has;
+/// 6. each node from which wires of its diagram lead to itself;
+/// 7. each VI whose name one before it has, and each panel line whose name a line before it has;
+/// 8. each `read` or `write` that names no object of its VI's panel;
+/// 9. each `call` that names no VI; and, at line 0 of a VI after all others, that none has MAIN's name;
+/// 10. each `when` line with a value, or a `default`, that stands in its case before, the same line
+///     included, or with a range that falls;
+/// 11. each unwired operand of a `give` for a result without default, and each result that is wired in
+///     no branch;
+/// 12. in a body in place, or a case in it, each node other than `const`, a primitive, a case or a
+///     structure in place, and nothing that stands in such a node; each `ref` line after the first of its
+///     structure; and each `ref` line of a structure anywhere inside another body in place;
+/// 13. the count of each `for` that is unwired where there is no `index` line;
+/// 14. each `obtain` that differs in size or type from the first with its name.
+///
 /// Only want of memory refuses it; that there are 2^32 VIs, lines or operands, which no place can name,
 /// is told so too.
-pub fn wiring(alloc: Global, h: &Hierarchy, _main: &Name) -> Result<BreakList, AllocError>
-    ensures { IfOk result (λ breaks. IsWiring h.now breaks) }
+pub fn wiring(alloc: Global, h: &Hierarchy, main: &Name) -> Result<BreakList, AllocError>
+    ensures { IfOk result (λ breaks. IsWiring h.now main.now breaks) }
 {
     let vis = h.vis.as_slice();
-    let callees = callees(alloc, vis)?;
-    let found = check_vis(alloc, &callees, vis)?;
-    let mut all = found.named;
+    let known = Known {
+        callees: callees(alloc, vis)?,
+        arities: arities(alloc, vis)?,
+        queues: queues(alloc, vis)?,
+    };
+    let found = check_vis(alloc, &known, vis)?;
+    let mut all = found.plain;
+    push_vi_repeats(alloc, vis, &mut all)?;
+    push_absent(&known.arities, vis.len(), main, &mut all)?;
     all.extend_from_slice(found.cycles.as_slice())?;
     Ok(List::from_vec(listed(alloc, all.as_slice())?))
 }

@@ -8,6 +8,7 @@ use crate::coded::Coded;
 use crate::edges::{graph_of, lines_of};
 use g_diagram::{Break, Place};
 use g_graph::cycles::cycles;
+use g_line_breaks::next;
 use std::alloc::{AllocError, Global};
 
 /// Of each line, whether wires lead from its node to itself.
@@ -35,12 +36,6 @@ fn push_if(vi: u32, line: u32, mark: bool, breaks: &mut Vec<Break>) -> Result<()
         breaks.push(Break { place, rule: 6 })?;
     }
     Ok(())
-}
-
-pub fn next(n: u32) -> Result<u32, AllocError>
-    ensures { IfOk result (λ m. m ≡ n + 1) }
-{
-    n.checked_add(1).ok_or(AllocError)
 }
 
 /// The breaks of rule 6: each line that is marked.

@@ -3,8 +3,6 @@ use Rattle.std.specs.Prelude.{All}
 use Rattle.g_diagram.specs.Lines as lines
 use Rattle.g_diagram.specs.Operands.{control_lines, entries_lines}
 use Rattle.g_diagram.specs.Ports.{ports_in}
-use Rattle.g_table.specs.declared.entry.Entry.{Entry}
-use Rattle.g_table.specs.Seen as table
 use Rattle.g_ports.specs.declared.port.Port.{Port}
 use Rattle.g_ports.specs.Callees.{freedom_by}
 use Rattle.g_wires.specs.Coding.{code_by, has_wire_of}
@@ -16,7 +14,7 @@ pub returns : goal.returns
 returns c =
     let P : List Port → Type 0 = All (has_wire_of c.in_ok-numbers.numbers) in
     is_coding c.in_ok-numbers.numbers c.in_ok-ports.ports.items (ports_with (freedom_by c.args.callees.now) c.args.vi.now) c.in_ok-coded.coded.items c.len.result
-    c.in_ok-numbers.ensures.numbers (subst P c.as_slice-2.ensures.value c.in_ok-numbers.ensures.all) c.len.ensures.len c.len.ensures.small
-    (c.in_ok-coded.ensures ∙ ap (map (code_by c.in_ok-numbers.numbers)) c.as_slice-3.ensures.value)
+    c.in_ok-numbers.ensures.numbers (subst P c.as_slice.ensures.value c.in_ok-numbers.ensures.all) c.len.ensures.len c.len.ensures.small
+    (c.in_ok-coded.ensures ∙ ap (map (code_by c.in_ok-numbers.numbers)) c.as_slice-2.ensures.value)
     (c.in_ok-ports.ensures
-    ∙ ap (λ (es : List lines.Entry). ports_in (control_lines 1 c.args.vi.now.panel ++ entries_lines (freedom_by c.args.callees.now) es)) (ap (map table.seen) c.as_slice.ensures.value ∙ c.in_ok-entries.ensures))
+    ∙ ap (λ (es : List lines.Entry). ports_in (control_lines 1 c.args.vi.now.panel ++ entries_lines (freedom_by c.args.callees.now) es)) c.requires)

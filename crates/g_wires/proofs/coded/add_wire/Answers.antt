@@ -1,9 +1,6 @@
-use Rattle.std.proofs.Common.{◌≡◌, ℕ, ◌+◌, List, Bool, sym, ap, ◌∙◌, subst, arith}
-use Rattle.std.specs.Prelude.{if◌then◌else◌, Option, Some, is_some}
-use Rattle.std.specs.Option.{IsSome}
+use Rattle.std.proofs.Common.{◌≡◌, ◌+◌, Bool, sym, ap, ◌∙◌}
+use Rattle.std.specs.Prelude.{if◌then◌else◌, is_some}
 use Rattle.std.specs.BTreeMap.{btree_map_len}
-use denote.Ref.{Bor}
-use Rattle.g_wires.specs.Coding.{Table, number_at, is_numbered, has_wire_of, Numbers}
 use Rattle.g_wires.proofs.NumberLemmas.{Adds, numbers_more, has_new, has_kept, port_has}
 use Rattle.g_wires.proofs.coded.add_wire.Goals as goal
 

@@ -1,5 +1,4 @@
-use Rattle.std.proofs.Common.{ℕ, ◌||◌, sym, ap, ◌∙◌}
-use Rattle.std.proofs.lemmas.List.Folds.{list_any_more}
+use Rattle.std.proofs.Common.{◌∙◌}
 use Rattle.g_wires.specs.Marks.{is_edge}
 use Rattle.g_wires.proofs.EdgeLemmas.{edges_more}
 use Rattle.g_wires.proofs.edges.graph_of.Goals as goal

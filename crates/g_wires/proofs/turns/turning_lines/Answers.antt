@@ -1,4 +1,4 @@
-use Rattle.std.proofs.Common.{List, length, subst}
+use Rattle.std.proofs.Common.{length, subst}
 use Rattle.g_graph.specs.Graph.{Graph, TellsCycles}
 use Rattle.g_wires.proofs.Turning.{lines_told}
 use Rattle.g_wires.proofs.turns.turning_lines.Goals as goal

@@ -1,0 +1,4 @@
+pub mod Spots
+pub mod Lines
+pub mod Lists
+pub mod Names

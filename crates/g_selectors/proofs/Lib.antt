@@ -1,0 +1,4 @@
+pub mod Meeting
+pub mod Ends
+pub mod Naming
+mod Examples

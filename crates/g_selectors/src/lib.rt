@@ -1,0 +1,9 @@
+//! The selectors of a case: whether a `when` line names what stands in the case before.
+#![tactic(auto)]
+
+mod intervals;
+mod taken;
+#[cfg(test)]
+mod tests;
+
+pub use taken::{Taken, nothing_taken, take};
