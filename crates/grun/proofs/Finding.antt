@@ -1,62 +1,100 @@
--- Numbers by names, as a map keeps them and as a list tells them.
-use Rattle.std.proofs.Common.{◌≡◌, ◌+◌, ◌<◌, arith, ℕ, ℤ, pos, negsuc, Bool, true, false, cond, List, [], ◌∷◌, ◌++◌, map, Option, Some, None, refl, ap, ◌∙◌}
-use Rattle.std.specs.Prelude.{bytes_eq, is_some, FitsSigned}
-use Rattle.std.specs.Int.{w32}
-use lib.Signed.{mag}
+-- Types and values by names, as a map keeps them and as a list tells them.
+use Rattle.std.proofs.Common.{◌≡◌, ◌+◌, ℕ, Bool, true, false, cond, List, [], ◌∷◌, ◌++◌, Option, Some, None, refl, ap, sym, ◌∙◌}
+use Rattle.std.specs.Prelude.{bytes_eq, is_some}
 use Rattle.std.specs.Borrow.{Bor}
 use Rattle.std.specs.Map.{lookup}
-use Rattle.std.specs.List.{list_any}
+use Rattle.std.specs.Option.{option_map}
 use Rattle.std.proofs.lemmas.List.{map-append}
+use Rattle.std.proofs.lemmas.Slice.Eq.{bytes_eq-Decides}
+use Rattle.g_types.specs.declared.ty.Ty.{Ty}
+use Rattle.g_values.specs.declared.value.Value.{Value}
 use Rattle.g_line.specs.declared.forms.Setting.{Setting}
-use Rattle.grun.specs.Settings.{Wrong, find, spelled_number, number_for, take_setting, given_from}
-use Rattle.grun.specs.Views.{entries_of, texts_of}
+use Rattle.grun.specs.Settings.{Named, Wrong, find, spelled_as, value_for, take_setting, given_from}
+use Rattle.grun.specs.Views.{types_in, values_in}
 
-abbrev pub Entry : Type 0
-Entry = Bor (List ℕ) × ℤ
+abbrev pub TypeEntry : Type 0
+TypeEntry = Bor (List ℕ) × Bor Ty
 
-pub find-lookup : (name : List ℕ) (es : List Entry) → lookup (λ (k : Bor (List ℕ)). bytes_eq name k.now) es ≡ find name (entries_of es)
-find-lookup name [] = refl
-find-lookup name (e ∷ es) = ap (cond (bytes_eq name e.0.now) (Some e.1)) (find-lookup name es)
+abbrev pub ValueEntry : Type 0
+ValueEntry = Bor (List ℕ) × Value
 
--- a setting that is none, one that was named before, and one more
-pub step_none : (controls : List (List ℕ)) (before : List (List ℕ × ℤ)) (k : ℕ) (s : Setting) (ss : List Setting) → number_for controls s ≡ None → given_from controls before k (s ∷ ss) ≡ Wrong k
-step_none controls before k s ss e = ap (λ (r : Option ℤ). take_setting r (find s.name before) (λ n. given_from controls (before ++ (s.name, n) ∷ []) (k + 1) ss) k) e
+abbrev pub type_held : Option (Bor Ty) → Option Ty
+type_held = option_map (λ (t : Bor Ty). t.now)
 
-pub step_again : (controls : List (List ℕ)) (before : List (List ℕ × ℤ)) (k : ℕ) (s : Setting) (ss : List Setting) (n m : ℤ) → number_for controls s ≡ Some n → find s.name before ≡ Some m → given_from controls before k (s ∷ ss) ≡ Wrong k
-step_again controls before k s ss n m e f =
-    ap (λ (r : Option ℤ). take_setting r (find s.name before) (λ n. given_from controls (before ++ (s.name, n) ∷ []) (k + 1) ss) k) e
-    ∙ ap (λ (r : Option ℤ). take_setting (Some n) r (λ n. given_from controls (before ++ (s.name, n) ∷ []) (k + 1) ss) k) f
+type_cond : (b : Bool) (x : Bor Ty) (y : Option (Bor Ty)) → type_held (cond b (Some x) y) ≡ cond b (Some x.now) (type_held y)
+type_cond true x y = refl
+type_cond false x y = refl
 
-pub step_more : (controls : List (List ℕ)) (before : List (List ℕ × ℤ)) (k : ℕ) (s : Setting) (ss : List Setting) (n : ℤ) → number_for controls s ≡ Some n → find s.name before ≡ None
-    → given_from controls before k (s ∷ ss) ≡ given_from controls (before ++ (s.name, n) ∷ []) (k + 1) ss
-step_more controls before k s ss n e f =
-    ap (λ (r : Option ℤ). take_setting r (find s.name before) (λ n. given_from controls (before ++ (s.name, n) ∷ []) (k + 1) ss) k) e
-    ∙ ap (λ (r : Option ℤ). take_setting (Some n) r (λ n. given_from controls (before ++ (s.name, n) ∷ []) (k + 1) ss) k) f
+pub find-type : (name : List ℕ) (es : List TypeEntry) → type_held (lookup (λ (k : Bor (List ℕ)). bytes_eq name k.now) es) ≡ find name (types_in es)
+find-type name [] = refl
+find-type name (e ∷ es) = type_cond (bytes_eq name e.0.now) e.1 (lookup (λ (k : Bor (List ℕ)). bytes_eq name k.now) es) ∙ ap (cond (bytes_eq name e.0.now) (Some e.1.now)) (find-type name es)
 
--- a test that was passed
-pub passed : {A : Type 0} (b : Bool) (x : Option A) (y : A) → cond b x None ≡ Some y → (b ≡ true) × (x ≡ Some y)
-passed true x y e = (refl, e)
-passed false x y e = absurd cc
+pub find-value : (name : List ℕ) (es : List ValueEntry) → lookup (λ (k : Bor (List ℕ)). bytes_eq name k.now) es ≡ find name (values_in es)
+find-value name [] = refl
+find-value name (e ∷ es) = ap (cond (bytes_eq name e.0.now) (Some e.1)) (find-value name es)
 
-pub some_of : (r : Option ℤ) → is_some r ≡ true → (m : ℤ) × (r ≡ Some m)
+-- ---- one name more
+
+abbrev pub or_else : {A : Type 0} → Option A → Option A → Option A
+or_else None other = other
+or_else (Some x) other = Some x
+
+or_cond : {A : Type 0} (b : Bool) (x : A) (y z : Option A) → cond b (Some x) (or_else y z) ≡ or_else (cond b (Some x) y) z
+or_cond true x y z = refl
+or_cond false x y z = refl
+
+pub find-append : {A : Type 0} (name : List ℕ) (es fs : Named A) → find name (es ++ fs) ≡ or_else (find name es) (find name fs)
+find-append name [] fs = refl
+find-append name (e ∷ es) fs = ap (cond (bytes_eq name e.0) (Some e.1)) (find-append name es fs) ∙ or_cond (bytes_eq name e.0) e.1 (find name es) (find name fs)
+
+or_none : {A : Type 0} (x : Option A) → or_else x None ≡ x
+or_none None = refl
+or_none (Some x) = refl
+
+-- of one name what stands first is found
+pub find-known : {A : Type 0} (name : List ℕ) (es : Named A) (e : List ℕ × A) (x : A) → find e.0 es ≡ Some x → find name (es ++ e ∷ []) ≡ find name es
+find-known name es e x there = by (bytes_eq name e.0) refl
+  where
+    by : (b : Bool) → bytes_eq name e.0 ≡ b → find name (es ++ e ∷ []) ≡ find name es
+    by true same =
+        let is : find name es ≡ Some x = ap (λ n. find n es) ((bytes_eq-Decides name e.0).0 same) ∙ there in
+        find-append name es (e ∷ []) ∙ ap (λ o. or_else o (find name (e ∷ []))) is ∙ sym is
+    by false other = find-append name es (e ∷ []) ∙ ap (λ b. or_else (find name es) (cond b (Some e.1) None)) other ∙ or_none (find name es)
+
+-- lists that tell the same of each name still do with more behind them
+pub find-front : {A : Type 0} (es fs rest : Named A) → ((name : List ℕ) → find name es ≡ find name fs) → (name : List ℕ) → find name (es ++ rest) ≡ find name (fs ++ rest)
+find-front es fs rest same name = find-append name es rest ∙ ap (λ o. or_else o (find name rest)) (same name) ∙ sym (find-append name fs rest)
+
+pub types_in-more : (es : List TypeEntry) (e : TypeEntry) → types_in (es ++ e ∷ []) ≡ types_in es ++ (e.0.now, e.1.now) ∷ []
+types_in-more es e = map-append (λ (e : TypeEntry). (e.0.now, e.1.now)) es (e ∷ [])
+
+pub values_in-more : (es : List ValueEntry) (e : ValueEntry) → values_in (es ++ e ∷ []) ≡ values_in es ++ (e.0.now, e.1) ∷ []
+values_in-more es e = map-append (λ (e : ValueEntry). (e.0.now, e.1)) es (e ∷ [])
+
+-- ---- a setting that has no value, one that was named before, and one more
+
+pub step_none : (cs : Named Ty) (before : Named Value) (k : ℕ) (s : Setting) (ss : List Setting) → value_for cs s ≡ None → given_from cs before k (s ∷ ss) ≡ Wrong k
+step_none cs before k s ss e = ap (λ (r : Option Value). take_setting r (find s.name before) (λ v. given_from cs (before ++ (s.name, v) ∷ []) (k + 1) ss) k) e
+
+pub step_again : (cs : Named Ty) (before : Named Value) (k : ℕ) (s : Setting) (ss : List Setting) (v w : Value) → value_for cs s ≡ Some v → find s.name before ≡ Some w → given_from cs before k (s ∷ ss) ≡ Wrong k
+step_again cs before k s ss v w e f =
+    ap (λ (r : Option Value). take_setting r (find s.name before) (λ v. given_from cs (before ++ (s.name, v) ∷ []) (k + 1) ss) k) e
+    ∙ ap (λ (r : Option Value). take_setting (Some v) r (λ v. given_from cs (before ++ (s.name, v) ∷ []) (k + 1) ss) k) f
+
+pub step_more : (cs : Named Ty) (before : Named Value) (k : ℕ) (s : Setting) (ss : List Setting) (v : Value) → value_for cs s ≡ Some v → find s.name before ≡ None
+    → given_from cs before k (s ∷ ss) ≡ given_from cs (before ++ (s.name, v) ∷ []) (k + 1) ss
+step_more cs before k s ss v e f =
+    ap (λ (r : Option Value). take_setting r (find s.name before) (λ v. given_from cs (before ++ (s.name, v) ∷ []) (k + 1) ss) k) e
+    ∙ ap (λ (r : Option Value). take_setting (Some v) r (λ v. given_from cs (before ++ (s.name, v) ∷ []) (k + 1) ss) k) f
+
+-- a setting's value by a list that tells the same types
+pub value_known : (es cs : Named Ty) (s : Setting) → find s.name es ≡ find s.name cs → value_for es s ≡ value_for cs s
+value_known es cs s e = ap (λ t. spelled_as t s.text) e
+
+pub some_of : {A : Type 0} (r : Option A) → is_some r ≡ true → (x : A) × (r ≡ Some x)
 some_of None e = absurd cc
-some_of (Some m) e = (m, refl)
+some_of (Some x) e = (x, refl)
 
-pub none_of : (r : Option ℤ) → is_some r ≡ false → r ≡ None
+pub none_of : {A : Type 0} (r : Option A) → is_some r ≡ false → r ≡ None
 none_of None e = refl
-none_of (Some m) e = absurd cc
-
-pub entries-more : (es : List Entry) (e : Entry) → entries_of (es ++ e ∷ []) ≡ entries_of es ++ (e.0.now, e.1) ∷ []
-entries-more es e = map-append (λ (e : Entry). (e.0.now, e.1)) es (e ∷ [])
-
--- the known names are those of the controls
-pub number_known : (keys controls : List (List ℕ)) (s : Setting) → list_any (bytes_eq s.name) keys ≡ list_any (bytes_eq s.name) controls → number_for keys s ≡ number_for controls s
-number_known keys controls s e = ap (λ b. cond b (spelled_number s.text) None) e
-
-pub values-texts : {A : Type 0} (g : List ℕ → A) (names : List (Bor (List ℕ))) → map (λ (n : Bor (List ℕ)). g n.now) names ≡ map g (texts_of names)
-values-texts g [] = refl
-values-texts g (n ∷ names) = ap (λ vs. g n.now ∷ vs) (values-texts g names)
-
-pub fits-mag : (n : ℤ) → mag n < 2147483648 → FitsSigned w32 n
-fits-mag (pos n) h = record { sfits = omega arith }
-fits-mag (negsuc n) h = record { sfits = omega arith }
+none_of (Some x) e = absurd cc

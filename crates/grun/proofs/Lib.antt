@@ -1,5 +1,5 @@
-pub mod Distinct
 pub mod Finding
 pub mod Spelled
 pub mod Settled
 pub mod WellWired
+pub mod Plain

@@ -1,9 +1,8 @@
 -- The answer to words, bytes and the trace of a run: a status and what is written. Its cases stand in the order in which they are looked at.
-use Rattle.std.specs.Prelude.{◌≡◌, ◌≢◌, ℕ, ◌+◌, ◌<◌, ◌≤◌, List, [], ◌∷◌, ◌++◌, length, Option, Some, None, codes}
+use Rattle.std.specs.Prelude.{◌≡◌, ◌≢◌, ℕ, ◌+◌, ◌<◌, ◌≤◌, List, [], ◌++◌, length, Option, Some, None, codes}
 use Rattle.std.specs.Fmt.{decimal}
 use Rattle.g_values.specs.declared.value.Value.{Value}
 use Rattle.g_diagram.specs.declared.place.Break.{Break}
-use Rattle.g_diagram.specs.declared.hierarchy.Vi.{Vi}
 use Rattle.g_diagram.specs.declared.hierarchy.Hierarchy.{Hierarchy}
 use Rattle.g_diagram.specs.Text.{text_of}
 use Rattle.g_tokens.specs.declared.token.Spot.{Spot}
@@ -16,6 +15,7 @@ use Rattle.g_line.specs.declared.forms.Line.TheVariants.{Run, Print}
 use Rattle.g_line.specs.Forms.{HasLine}
 use Rattle.g_line.specs.Usage.{IsFirstWrong}
 use Rattle.g_wires.specs.Breaks.{IsWiring}
+use Rattle.g_scalars.specs.Scalars.{IsNumberForm, IsTyped}
 use Rattle.g_fire.specs.declared.firing.Firing.{Firing}
 use Rattle.g_fire.specs.declared.state.FireState.{FireState}
 use Rattle.g_fire.specs.Program.{program}
@@ -23,8 +23,7 @@ use Rattle.g_fire.specs.declared.state.End.TheVariants.{Complete}
 use Rattle.g_fire.specs.Run.{after, IsAtRest, end_of}
 use Rattle.g_fire.specs.Print.{print}
 use Rattle.grun.specs.Texts.{line_of, breaks_text, spot_text}
-use Rattle.grun.specs.Listing.{hierarchy_of, IsFormOf}
-use Rattle.grun.specs.Settings.{Numbers, Wrong, Right, given, control_values}
+use Rattle.grun.specs.Settings.{Named, Wrong, Right, given, control_values}
 
 pub record Reply : Type 0 where
   pub status : ℕ
@@ -48,21 +47,20 @@ pub record Runs (h : Hierarchy) (controls : List Value) (trace : List Firing) (r
   pub complete : end_of (program h) state ≡ Complete
   pub shown : r ≡ reply 0 (print (program h) state)
 
--- the answer for a VI and settings
-pub data IsRunAnswer (vi : Vi) (settings : List Setting) : Option (List Firing) → Reply → Type 0 where
-  -- rules are broken: the whole list
-  broken : (bs : List Break) → IsWiring (hierarchy_of vi) bs → bs ≢ [] → IsRunAnswer vi settings None (reply 3 (breaks_text (vi ∷ []) bs))
-  -- a setting names no control, or one that was named before, or has no number for it
-  control : (k : ℕ) → IsWiring (hierarchy_of vi) [] → given vi.panel settings ≡ Wrong k → IsRunAnswer vi settings None (reply 4 (line_of (codes "control at word " ++ decimal (k + 3))))
-  -- a run
-  ran : (numbers : Numbers) (trace : List Firing) (r : Reply) → IsWiring (hierarchy_of vi) [] → given vi.panel settings ≡ Right numbers → Runs (hierarchy_of vi) (control_values vi.panel numbers) trace r → IsRunAnswer vi settings (Some trace) r
-
 -- the answer to a run of a hierarchy
-pub data IsHierarchyAnswer (main : List ℕ) (settings : List Setting) (h : Hierarchy) : Option (List Firing) → Reply → Type 0 where
-  -- it is of another form than that which runs
-  not_built : (IsFormOf main h → ⊥) → IsHierarchyAnswer main settings h None (reply 12 (line_of (codes "not built")))
-  -- it is one VI of the form that runs
-  built : (vi : Vi) (trace : Option (List Firing)) (r : Reply) → h ≡ hierarchy_of vi → IsFormOf main h → IsRunAnswer vi settings trace r → IsHierarchyAnswer main settings h trace r
+pub data IsRunAnswer (main : List ℕ) (settings : List Setting) (h : Hierarchy) : Option (List Firing) → Reply → Type 0 where
+  -- it has lines of another form than those that run, or uses names otherwise
+  other_form : (IsNumberForm h → ⊥) → IsRunAnswer main settings h None (reply 12 (line_of (codes "not built")))
+  -- rules are broken: the whole list
+  broken : (bs : List Break) → IsNumberForm h → IsWiring h main bs → bs ≢ [] → IsRunAnswer main settings h None (reply 3 (breaks_text main h.vis bs))
+  -- its wires have no types that this form allows
+  untyped : (form : IsNumberForm h) → IsWiring h main [] → (IsTyped form.vi → ⊥) → IsRunAnswer main settings h None (reply 12 (line_of (codes "not built")))
+  -- a setting names no control, or one that was named before, or has no value of its type
+  control : (form : IsNumberForm h) (k : ℕ) → IsWiring h main [] → IsTyped form.vi → given form.vi.panel settings ≡ Wrong k
+      → IsRunAnswer main settings h None (reply 4 (line_of (codes "control at word " ++ decimal (k + 3))))
+  -- a run
+  ran : (form : IsNumberForm h) (values : Named Value) (trace : List Firing) (r : Reply) → IsWiring h main [] → IsTyped form.vi → given form.vi.panel settings ≡ Right values
+      → Runs h (control_values form.vi.panel values) trace r → IsRunAnswer main settings h (Some trace) r
 
 -- the answer to words and bytes
 pub data IsAnswer (words : List (List ℕ)) (bytes : List ℕ) : Option (List Firing) → Reply → Type 0 where
@@ -75,5 +73,5 @@ pub data IsAnswer (words : List (List ℕ)) (bytes : List ℕ) : Option (List Fi
   -- they are one, which is printed
   printed : (h : Hierarchy) → HasLine words Print → length bytes ≤ LIMIT → IsListing bytes h → IsAnswer words bytes None (reply 0 (text_of h))
   -- they are one, which is run
-  runs : (main : List ℕ) (settings : List Setting) (h : Hierarchy) (trace : Option (List Firing)) (r : Reply) → HasLine words (Run main settings) → length bytes ≤ LIMIT → IsListing bytes h → IsHierarchyAnswer main settings h trace r
+  runs : (main : List ℕ) (settings : List Setting) (h : Hierarchy) (trace : Option (List Firing)) (r : Reply) → HasLine words (Run main settings) → length bytes ≤ LIMIT → IsListing bytes h → IsRunAnswer main settings h trace r
       → IsAnswer words bytes trace r

@@ -1,5 +1,5 @@
 -- What a call does to its source and its sink.
-use Rattle.std.specs.Prelude.{◌≡◌, ℕ, ◌<◌, ◌==◌, Bool, ◌||◌, List, Option, Some, None, take, length, codes}
+use Rattle.std.specs.Prelude.{◌≡◌, ℕ, ◌<◌, ◌==◌, Bool, false, ◌||◌, List, [], ◌∷◌, Option, Some, None, take, length, codes, bytes_eq}
 use Rattle.std.specs.Io.KnownBytes.{Appends, Keeps}
 use Rattle.g_io.specs.Causes.{Rose}
 use Rattle.g_fire.specs.declared.firing.Firing.{Firing}
@@ -19,6 +19,11 @@ pub data Delivers (before after : Option (List ℕ)) (old new : ℕ) (r : Reply)
 abbrev pub Answers : List (List ℕ) → Option (List ℕ) → Option (List Firing) → Reply → Type 0
 Answers words None trace r = (bytes : List ℕ) × IsAnswer words bytes trace r
 Answers words (Some bytes) trace r = IsAnswer words bytes trace r
+
+-- whether the words are those of a run, rightly spelled or not
+abbrev pub begins_run : List (List ℕ) → Bool
+begins_run [] = false
+begins_run (word ∷ words) = bytes_eq word (codes "run")
 
 -- the statuses that say that the input was read to its end
 abbrev pub has_read : ℕ → Bool

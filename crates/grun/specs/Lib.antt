@@ -1,4 +1,3 @@
-pub mod Listing
 pub mod Views
 pub mod Settings
 pub mod GivenViews

@@ -16,19 +16,20 @@ spot_text s = decimal s.line ++ (58 ∷ decimal s.column)
 
 -- ---- what is written of breaks: `VI:L.O rule R` for each
 
-abbrev pub name_in : Option Vi → List ℕ
-name_in None = []
-name_in (Some vi) = vi.name
+-- a break that belongs to no VI of the listing is the main one's, which is absent
+abbrev pub name_or : (main : List ℕ) → Option Vi → List ℕ
+name_or main None = main
+name_or main (Some vi) = vi.name
 
-abbrev pub vi_name : List Vi → (number : ℕ) → List ℕ
-vi_name vis number = name_in (slice_get vis number)
+abbrev pub vi_name : (main : List ℕ) → List Vi → (number : ℕ) → List ℕ
+vi_name main vis number = name_or main (slice_get vis number)
 
-abbrev pub place_text : List Vi → Place → List ℕ
-place_text vis p = vi_name vis p.vi ++ (58 ∷ (decimal p.line ++ (46 ∷ decimal p.operand)))
+abbrev pub place_text : (main : List ℕ) → List Vi → Place → List ℕ
+place_text main vis p = vi_name main vis p.vi ++ (58 ∷ (decimal p.line ++ (46 ∷ decimal p.operand)))
 
-abbrev pub break_text : List Vi → Break → List ℕ
-break_text vis b = place_text vis b.place ++ (codes " rule " ++ (decimal b.rule ++ (10 ∷ [])))
+abbrev pub break_text : (main : List ℕ) → List Vi → Break → List ℕ
+break_text main vis b = place_text main vis b.place ++ (codes " rule " ++ (decimal b.rule ++ (10 ∷ [])))
 
-abbrev pub breaks_text : List Vi → List Break → List ℕ
-breaks_text vis [] = []
-breaks_text vis (b ∷ bs) = break_text vis b ++ breaks_text vis bs
+abbrev pub breaks_text : (main : List ℕ) → List Vi → List Break → List ℕ
+breaks_text main vis [] = []
+breaks_text main vis (b ∷ bs) = break_text main vis b ++ breaks_text main vis bs

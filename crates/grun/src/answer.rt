@@ -1,24 +1,23 @@
 //! The answer to a line and a listing.
 
-ghost use Rattle.std.specs.Prelude.{◌≡◌, ◌<◌, ◌≤◌, ◌+◌, ◌∷◌, [], List as Row, ℕ, Some, None, length, IfOk};
-ghost use Rattle.g_diagram.specs.Form.{IsForm};
-ghost use Rattle.g_diagram.specs.declared.hierarchy.Vi.{Vi as Instrument};
+ghost use Rattle.std.specs.Prelude.{◌≡◌, ◌<◌, ◌≤◌, ◌+◌, [], List as Row, ℕ, Some, None, length, IfOk, codes};
 ghost use Rattle.g_line.specs.Forms.{HasLine};
 ghost use Rattle.g_fire.specs.declared.firing.Firing.{Firing};
 ghost use Rattle.g_fire.specs.Plan.{AreControls};
+ghost use Rattle.g_scalars.specs.Scalars.{IsNumberForm, IsTyped};
 ghost use Rattle.g_wires.specs.Breaks.{IsWiring};
-ghost use Rattle.grun.specs.Listing.{hierarchy_of};
-ghost use Rattle.grun.specs.Answer.{reply, Runs, IsRunAnswer, IsHierarchyAnswer, IsAnswer, LIMIT as MOST};
+ghost use Rattle.grun.specs.Texts.{line_of};
+ghost use Rattle.grun.specs.Answer.{reply, Runs, IsRunAnswer, IsAnswer, LIMIT as MOST};
 
-use crate::form::is_form;
-use crate::settings::{Given, control_names, go_through, values};
-use crate::texts::{breaks_text, fixed, numbered, placed};
-use g_diagram::{Hierarchy, Vi};
+use crate::settings::{Given, controls, go_through, values};
+use crate::texts::{Names, breaks_text, fixed, numbered, placed};
+use g_diagram::Hierarchy;
 use g_fire::{Trace, run_all, state_text};
 use g_line::{Line, Setting};
 use g_listing::{ListingRefused, read_listing};
 use g_lists::List;
 use g_print::print_listing;
+use g_scalars::{is_number_form, is_typed};
 use g_types::{Bytes, Name};
 use g_values::ValueList;
 use g_wires::wiring;
@@ -33,10 +32,10 @@ pub(crate) struct Answer {
 }
 
 /// Runs a hierarchy whose rules are unbroken. Each of its nodes fires, so the run is complete.
-fn run(alloc: Global, h: &Hierarchy, controls: ValueList) -> Result<Answer, AllocError>
-    requires form { IsForm h.now }
+fn run(alloc: Global, h: &Hierarchy, main: &Name, controls: ValueList) -> Result<Answer, AllocError>
+    requires form { IsNumberForm h.now }
     requires controls { AreControls h.now controls }
-    requires sound { IsWiring h.now [] }
+    requires sound { IsWiring h.now main.now [] }
     ensures { IfOk result (λ answer. (trace : Row Firing) × (answer.trace ≡ Some trace) × Runs h.now controls trace (reply answer.status answer.text)) }
 {
     let ran = run_all(alloc, h, controls)?;
@@ -68,58 +67,62 @@ fn word_of(place: usize, _settings: &[Setting]) -> u64
     place as u64 + 3
 }
 
-/// The answer for settings of a hierarchy of one VI whose rules are unbroken.
+/// The answer for settings, where no rule is broken and the wires have types.
 fn answer_settings(
     alloc: Global,
     h: &Hierarchy,
-    vi: &Vi,
+    main: &Name,
     settings: &[Setting],
 ) -> Result<Answer, AllocError>
-    requires one { h.now ≡ hierarchy_of vi.now }
-    requires form { IsForm h.now }
-    requires sound { IsWiring h.now [] }
-    ensures { IfOk result (λ answer. IsRunAnswer vi.now settings.now answer.trace (reply answer.status answer.text)) }
+    requires form { IsNumberForm h.now }
+    requires sound { IsWiring h.now main.now [] }
+    requires typed { (form : IsNumberForm h.now) → IsTyped form.vi }
+    ensures { IfOk result (λ answer. IsRunAnswer main.now settings.now h.now answer.trace (reply answer.status answer.text)) }
 {
-    let controls = control_names(alloc, vi.panel.as_slice())?;
+    let controls = controls(alloc, h.vis.as_slice()[0].panel.as_slice())?;
     match go_through(alloc, &controls, settings)? {
         Given::Wrong(place) => {
             let text = numbered(alloc, b"control at word ", word_of(place, settings))?;
             Ok(plain(4, text))
         }
-        Given::Right(numbers) => {
-            let values = values(alloc, &controls, &numbers)?;
-            run(alloc, h, ValueList::from_list(List::from_vec(values)))
+        Given::Right(given) => {
+            let values = values(alloc, &controls, &given)?;
+            run(alloc, h, main, ValueList::from_list(List::from_vec(values)))
         }
     }
 }
 
-/// The answer for a hierarchy of the form, which is one VI.
-fn answer_form(alloc: Global, h: &Hierarchy, settings: &[Setting]) -> Result<Answer, AllocError>
-    requires { IsForm h.now }
-    ensures { IfOk result (λ answer. (vi : Instrument) × (h.now ≡ hierarchy_of vi) × IsRunAnswer vi settings.now answer.trace (reply answer.status answer.text)) }
+fn not_built(alloc: Global) -> Result<Answer, AllocError>
+    ensures { IfOk result (λ answer. (answer.trace ≡ None) × (reply answer.status answer.text ≡ reply 12 (line_of (codes "not built")))) }
 {
-    let vi = &h.vis.as_slice()[0];
-    let breaks = wiring(alloc, h, &vi.name)?;
-    if breaks.is_empty() {
-        return answer_settings(alloc, h, vi, settings);
-    }
-    let text = breaks_text(alloc, h.vis.as_slice(), breaks.as_slice())?;
-    Ok(plain(3, text))
+    Ok(plain(12, fixed(alloc, b"not built")?))
 }
 
-/// The answer to a run of a hierarchy.
+/// The answer to a run of a hierarchy: first its form, then the rules, then the types of its wires, and
+/// then the settings.
 fn answer_run(
     alloc: Global,
     h: &Hierarchy,
     main: &Name,
     settings: &[Setting],
 ) -> Result<Answer, AllocError>
-    ensures { IfOk result (λ answer. IsHierarchyAnswer main.now settings.now h.now answer.trace (reply answer.status answer.text)) }
+    ensures { IfOk result (λ answer. IsRunAnswer main.now settings.now h.now answer.trace (reply answer.status answer.text)) }
 {
-    if !is_form(alloc, h, main)? {
-        return Ok(plain(12, fixed(alloc, b"not built")?));
+    if !is_number_form(alloc, h)? {
+        return not_built(alloc);
     }
-    answer_form(alloc, h, settings)
+    let breaks = wiring(alloc, h, main)?;
+    if !breaks.is_empty() {
+        let names = Names {
+            main,
+            vis: h.vis.as_slice(),
+        };
+        return Ok(plain(3, breaks_text(alloc, &names, breaks.as_slice())?));
+    }
+    if !is_typed(alloc, &h.vis.as_slice()[0])? {
+        return not_built(alloc);
+    }
+    answer_settings(alloc, h, main, settings)
 }
 
 /// The answer to a line and a listing.

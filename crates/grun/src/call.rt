@@ -1,9 +1,12 @@
 //! The top call.
 
-ghost use Rattle.std.specs.Prelude.{◌≡◌, ◌≤◌, true, map, None, IfOk};
+ghost use Rattle.std.specs.Prelude.{◌≡◌, ◌≤◌, true, ℕ, List as Row, map, None, IfOk};
 ghost use Rattle.std.specs.String.{string_bytes};
 ghost use Rattle.std.specs.Io.KnownBytes.{IsAtEnd};
-ghost use Rattle.grun.specs.Call.{Delivers, Ending, Found, has_read};
+ghost use Rattle.g_line.specs.declared.forms.Line.TheVariants.{Run};
+ghost use Rattle.g_line.specs.declared.forms.Setting.{Setting};
+ghost use Rattle.g_line.specs.Forms.{HasLine};
+ghost use Rattle.grun.specs.Call.{Delivers, Ending, Found, has_read, begins_run};
 ghost use Rattle.grun.specs.Answer.{reply};
 
 use crate::answer::{Answer, answer_line, plain};
@@ -46,7 +49,18 @@ fn out_of_memory() -> Outcome
     }
 }
 
-/// Reads a listing from the source, does what the words say, and writes the answer to the sink.
+/// Whether the words are those of a run, rightly spelled or not.
+fn begins_run(words: &[String]) -> bool
+    ensures { result ≡ begins_run (map string_bytes words.now) }
+{
+    match words.first() {
+        Some(word) => word.as_bytes() == b"run".as_slice(),
+        None => false,
+    }
+}
+
+/// Reads a listing from the source, does what the words say, and writes the answer to the sink. What is
+/// no run is handed to `plain_call`.
 pub fn grun_call<S: Source, K: Sink>(
     alloc: Global,
     words: &Vec<String>,
@@ -60,6 +74,12 @@ pub fn grun_call<S: Source, K: Sink>(
         (S.faults source.old) (S.faults source.new) (K.faults sink.old) (K.faults sink.new) result.trace result.status }
     ensures read_to_end { has_read result.status ≡ true → IsAtEnd (S.left source.new) }
 {
+    if !begins_run(words) {
+        return Outcome {
+            status: plain_call(alloc, words, source, sink),
+            trace: None,
+        };
+    }
     let answer = match answer(alloc, words, source) {
         Ok(answer) => answer,
         Err(_) => return out_of_memory(),
@@ -67,6 +87,27 @@ pub fn grun_call<S: Source, K: Sink>(
     Outcome {
         status: deliver(sink, answer.status, answer.text.as_slice()),
         trace: answer.trace,
+    }
+}
+
+/// The same for words that are no run: nothing fires, and the answer is the status alone.
+pub fn plain_call<S: Source, K: Sink>(
+    alloc: Global,
+    words: &Vec<String>,
+    source: &mut S,
+    sink: &mut K,
+) -> u8
+    requires { (main : Row ℕ) (settings : Row Setting) → HasLine (map string_bytes words.now.items) (Run main settings) → ⊥ }
+    ensures source_later { S.faults source.old ≤ S.faults source.new }
+    ensures sink_later { K.faults sink.old ≤ K.faults sink.new }
+    ensures kept { K.made_with sink.new ≡ K.made_with sink.old }
+    ensures ending { Ending (map string_bytes words.now.items) (S.left source.old) (K.held sink.old) (K.held sink.new)
+        (S.faults source.old) (S.faults source.new) (K.faults sink.old) (K.faults sink.new) None result }
+    ensures read_to_end { has_read result ≡ true → IsAtEnd (S.left source.new) }
+{
+    match answer(alloc, words, source) {
+        Ok(answer) => deliver(sink, answer.status, answer.text.as_slice()),
+        Err(_) => 9,
     }
 }
 

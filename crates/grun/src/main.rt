@@ -3,8 +3,6 @@
 
 mod answer;
 mod call;
-mod form;
-mod names;
 mod settings;
 #[cfg(test)]
 mod tests;

@@ -1,142 +1,158 @@
 //! What settings say of controls.
 
-ghost use Rattle.std.specs.Prelude.{◌≡◌, true, [], ◌∷◌, ◌++◌, map, IfOk, OnOk};
-ghost use Rattle.std.specs.List.{list_any};
+ghost use Rattle.std.specs.Prelude.{◌≡◌, ℕ, List as Row, [], ◌∷◌, ◌++◌, map, IfOk, OnOk};
 ghost use Rattle.std.specs.Option.{option_copied};
-ghost use Rattle.std.specs.Prelude.{bytes_eq, None};
-ghost use Rattle.g_fire.specs.Plan.{is_i32};
-ghost use Rattle.g_values.specs.declared.value.Value.{out-Value};
-ghost use Rattle.grun.specs.Settings.{control_names, number_at, spelled_number, number_for, given_from, control_values, i32_value, or_zero, find};
-ghost use Rattle.grun.specs.Views.{texts_of, entries_of};
+ghost use Rattle.grun.specs.Settings.{controls, find, spelled_value, value_for, given_from, or_default, value_in};
+ghost use Rattle.grun.specs.Views.{seen_control, seen_controls, types_in, values_in};
 ghost use Rattle.grun.specs.GivenViews.{given_seen};
 
-use crate::names::set_of;
 use g_diagram::PanelItem;
 use g_line::Setting;
-use g_types::{Rep, Ty};
+use g_types::Ty;
 use g_valtext::{ValueRefused, read_value};
-use g_values::{Num, Value};
-use indexmap::{IndexMap, IndexSet};
+use g_values::{Copies, Value, copy, default_of};
+use indexmap::IndexMap;
 use std::alloc::{AllocError, Global};
 
-/// The names of the controls, in listing order.
-pub(crate) fn control_names(alloc: Global, panel: &[PanelItem]) -> Result<Vec<&[u8]>, AllocError>
-    ensures { IfOk result (λ names. texts_of names.items ≡ control_names panel.now) }
-{
-    let mut names = Vec::new(alloc);
-    for item in panel {
-        push_control(&mut names, item)?;
-    }
-    Ok(names)
+/// A control's name and type.
+#[derive(Clone, Copy)]
+pub(crate) struct Control<'a> {
+    pub name: &'a [u8],
+    pub ty: &'a Ty,
 }
 
-fn push_control<'a>(names: &mut Vec<&'a [u8]>, item: &'a PanelItem) -> Result<(), AllocError>
-    ensures { OnOk result (texts_of names.new.items ≡ texts_of names.old.items ++ control_names (item.entry.now ∷ [])) }
+/// The controls, in listing order.
+pub(crate) fn controls(alloc: Global, panel: &[PanelItem]) -> Result<Vec<Control<'_>>, AllocError>
+    ensures { IfOk result (λ all. seen_controls all.items ≡ controls panel.now) }
 {
-    let PanelItem::Control { name, .. } = item else {
+    let mut all = Vec::new(alloc);
+    for item in panel {
+        push_control(&mut all, item)?;
+    }
+    Ok(all)
+}
+
+fn push_control<'a>(all: &mut Vec<Control<'a>>, item: &'a PanelItem) -> Result<(), AllocError>
+    ensures { OnOk result (seen_controls all.new.items ≡ seen_controls all.old.items ++ controls (item.entry.now ∷ [])) }
+{
+    let PanelItem::Control { name, ty, .. } = item else {
         return Ok(());
     };
-    names.push(name.as_slice())?;
+    all.push(Control {
+        name: name.as_slice(),
+        ty,
+    })?;
     Ok(())
 }
 
-/// What the settings give: the place of the first wrong one, or the numbers of the controls that
-/// they name.
-pub(crate) enum Given<'a> {
-    Wrong(usize),
-    Right(IndexMap<&'a [u8], i32>),
+/// The types of controls, by their names.
+type Types<'a> = IndexMap<&'a [u8], &'a Ty>;
+
+/// The first control of a name stays.
+fn add_type<'a>(types: &mut Types<'a>, control: Control<'a>) -> Result<(), AllocError>
+    ensures { OnOk result ((name : Row ℕ) → find name (types_in types.new.entries) ≡ find name (types_in types.old.entries ++ seen_control control.entry ∷ [])) }
+{
+    if types.get(&control.name).is_some() {
+        return Ok(());
+    }
+    types.insert(control.name, control.ty)?;
+    Ok(())
 }
 
-/// The number that a setting's text spells, as a value of the type of a control.
-fn spelled_number(alloc: Global, text: &[u8]) -> Result<Option<i32>, AllocError>
-    ensures { IfOk result (λ n. n ≡ spelled_number text.now) }
+fn types_of<'a>(alloc: Global, controls: &[Control<'a>]) -> Result<Types<'a>, AllocError>
+    ensures { IfOk result (λ types. (name : Row ℕ) → find name (types_in types.entries) ≡ find name (seen_controls controls.now)) }
 {
-    match read_value(alloc, &Ty::Num(Rep::I32), text) {
-        Ok(value) => Ok(number_in(&value)),
+    let mut types: Types<'a> = IndexMap::new(alloc);
+    for control in controls {
+        add_type(&mut types, *control)?;
+    }
+    Ok(types)
+}
+
+/// What the settings give: the place of the first wrong one, or the values of the controls that they
+/// name.
+pub(crate) enum Given<'a> {
+    Wrong(usize),
+    Right(IndexMap<&'a [u8], Value>),
+}
+
+/// The value of a type that a setting's text spells.
+fn spelled_value(alloc: Global, ty: &Ty, text: &[u8]) -> Result<Option<Value>, AllocError>
+    ensures { IfOk result (λ v. v ≡ spelled_value ty.now text.now) }
+{
+    match read_value(alloc, ty, text) {
+        Ok(value) => Ok(Some(value)),
         Err(ValueRefused::NotOfType(_)) => Ok(None),
         Err(ValueRefused::Memory(error)) => Err(error),
     }
 }
 
-fn number_in(value: &Value) -> Option<i32>
-    requires { is_i32 value.now ≡ true }
-    ensures { result ≡ number_at (out-Value value.now) }
-{
-    match value {
-        Value::Num(number) => Some(number.n as i32),
-        _ => None,
-    }
-}
-
-fn number_for(
+fn value_for(
     alloc: Global,
-    controls: &IndexSet<&[u8]>,
+    types: &Types<'_>,
     setting: &Setting,
-) -> Result<Option<i32>, AllocError>
-    ensures { IfOk result (λ n. n ≡ number_for (texts_of controls.now.keys) setting.now) }
+) -> Result<Option<Value>, AllocError>
+    ensures { IfOk result (λ v. v ≡ value_for (types_in types.now.entries) setting.now) }
 {
-    if controls.contains(&setting.name.as_slice()) {
-        spelled_number(alloc, setting.text.as_slice())
-    } else {
-        Ok(None)
+    match types.get(&setting.name.as_slice()) {
+        Some(ty) => spelled_value(alloc, *ty, setting.text.as_slice()),
+        None => Ok(None),
     }
 }
 
 /// Goes through the settings, one after the other.
 pub(crate) fn go_through<'a>(
     alloc: Global,
-    controls: &[&'a [u8]],
+    controls: &[Control<'a>],
     settings: &'a [Setting],
 ) -> Result<Given<'a>, AllocError>
-    ensures { IfOk result (λ given. given_seen given ≡ given_from (texts_of controls.now) [] 0 settings.now) }
+    ensures { IfOk result (λ given. given_seen given ≡ given_from (seen_controls controls.now) [] 0 settings.now) }
 {
-    let known = set_of(alloc, controls)?;
-    let mut numbers: IndexMap<&'a [u8], i32> = IndexMap::new(alloc);
+    let types = types_of(alloc, controls)?;
+    let mut values: IndexMap<&'a [u8], Value> = IndexMap::new(alloc);
     for place in 0..settings.len() {
         let setting = &settings[place];
-        let Some(number) = number_for(alloc, &known, setting)? else {
+        let Some(value) = value_for(alloc, &types, setting)? else {
             return Ok(Given::Wrong(place));
         };
-        if numbers.insert(setting.name.as_slice(), number)?.is_some() {
+        if values.insert(setting.name.as_slice(), value)?.is_some() {
             return Ok(Given::Wrong(place));
         }
     }
-    Ok(Given::Right(numbers))
+    Ok(Given::Right(values))
 }
 
-/// The value of a control: its number, or the default where it has none.
-fn value_for<'a>(numbers: &IndexMap<&'a [u8], i32>, name: &'a [u8]) -> Value
-    ensures { result ≡ i32_value (or_zero (find name.now (entries_of numbers.now.entries))) }
+fn copy_or_default(alloc: Global, ty: &Ty, value: Option<&Value>) -> Result<Value, AllocError>
+    ensures { IfOk result (λ v. v ≡ or_default ty.now (option_copied value.entry)) }
 {
-    i32_value(number_or_zero(numbers.get(&name)))
-}
-
-fn number_or_zero(number: Option<&i32>) -> i32
-    ensures { result ≡ or_zero (option_copied number.entry) }
-{
-    match number {
-        Some(number) => *number,
-        None => 0,
+    match value {
+        Some(value) => copy(alloc, value, &mut Copies { n: 0 }),
+        None => default_of(alloc, ty),
     }
 }
 
-fn i32_value(number: i32) -> Value
-    ensures { result ≡ i32_value number }
+/// The value of a control: what a setting gave it, or the default of its type.
+fn value_in<'a>(
+    alloc: Global,
+    values: &IndexMap<&'a [u8], Value>,
+    control: Control<'a>,
+) -> Result<Value, AllocError>
+    ensures { IfOk result (λ v. v ≡ value_in (values_in values.now.entries) (seen_control control.entry)) }
 {
-    Value::Num(Num::wrapped(Rep::I32, number as i128))
+    copy_or_default(alloc, control.ty, values.get(&control.name))
 }
 
 /// The values of the controls, in listing order.
 pub(crate) fn values<'a>(
     alloc: Global,
-    controls: &[&'a [u8]],
-    numbers: &IndexMap<&'a [u8], i32>,
+    controls: &[Control<'a>],
+    given: &IndexMap<&'a [u8], Value>,
 ) -> Result<Vec<Value>, AllocError>
-    ensures { IfOk result (λ values. values.items ≡ map (λ name. i32_value (or_zero (find name (entries_of numbers.now.entries)))) (texts_of controls.now)) }
+    ensures { IfOk result (λ values. values.items ≡ map (value_in (values_in given.now.entries)) (seen_controls controls.now)) }
 {
     let mut values = Vec::new(alloc);
-    for name in controls {
-        values.push(value_for(numbers, *name))?;
+    for control in controls {
+        values.push(value_in(alloc, given, *control)?)?;
     }
     Ok(values)
 }

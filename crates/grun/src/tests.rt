@@ -17,7 +17,18 @@ const PRINTED: &str =
 
 const OPEN: &str = "glisting 1\nvi Main\n  control a i32 ->\nend\n";
 
-const NARROW: &str = "glisting 1\nvi Main\ncontrol a u8 -> a\nindicator r u8 <- a\nend\n";
+const LOOSE: &str = "glisting 1\nvi Main\ncontrol a u8 -> a\nindicator r u8 <- _\nend\n";
+
+const NARROW: &str =
+    "glisting 1\nvi Main\ncontrol a u8 -> a\nindicator r u8 <- n\ninc a -> n\nend\n";
+
+const MIXED: &str =
+    "glisting 1\nvi Main\ncontrol a i32 -> a\ncontrol b u32 -> b\nindicator r u8 <- s\nindicator t bool <- f\nadd a b -> s\nconst bool TRUE -> f\nend\n";
+
+const TRUTHS: &str =
+    "glisting 1\nvi Main\ncontrol a bool -> a\nindicator r bool <- n\ninc a -> n\nend\n";
+
+const WIDE: &str = "glisting 1\nvi Main\nindicator r u8 <- k\nconst u8 256 -> k\nend\n";
 
 const BROKEN: &str =
     "glisting 1\nvi Main nonreentrant same\n  control a i32 -> a\n  indicator r i32 <- w\n  indicator s i32 <- t\n  add a w -> w\nend\n";
@@ -73,8 +84,14 @@ fn answers_each_call(rt: HostRuntime) -> Result<(), Fail> {
         (("print", SPELLED), (0, PRINTED)),
         (("print", OPEN), (2, "syntax at 3:19\n")),
         (("print x", ADD), (1, "usage at word 2\n")),
-        (("run Other c=1", ADD), (12, "not built\n")),
-        (("run Main a=1", NARROW), (12, "not built\n")),
+        (("run Other c=1", ADD), (3, "Other:0.0 rule 9\n")),
+        (("run Main a=1", LOOSE), (12, "not built\n")),
+        (("run Main a=255", NARROW), (0, "r = 0\n")),
+        (("run Main a=256", NARROW), (4, "control at word 3\n")),
+        (("run Main a=-1 b=1", MIXED), (0, "r = 0\nt = TRUE\n")),
+        (("run Main a=255 b=2", MIXED), (0, "r = 1\nt = TRUE\n")),
+        (("run Main a=1", TRUTHS), (12, "not built\n")),
+        (("run Main", WIDE), (12, "not built\n")),
         (
             ("run Main c=1", BROKEN),
             (3, "Main:3.1 rule 1\nMain:4.0 rule 6\n"),

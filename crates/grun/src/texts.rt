@@ -8,7 +8,7 @@ ghost use Rattle.grun.specs.Texts.{line_of, spot_text, vi_name, place_text, brea
 use g_diagram::{Break, Place, Vi};
 use g_lists::List;
 use g_tokens::Spot;
-use g_types::Bytes;
+use g_types::{Bytes, Name};
 use std::alloc::{AllocError, Global};
 
 fn push_number(alloc: Global, out: &mut Vec<u8>, number: u64) -> Result<(), AllocError>
@@ -52,20 +52,35 @@ pub(crate) fn fixed(alloc: Global, text: &[u8]) -> Result<Bytes, AllocError>
     Ok(List::from_vec(out))
 }
 
-fn vi_name(vis: &[Vi], number: u32) -> &[u8]
-    ensures { result.now ≡ vi_name vis.now number }
-{
-    match vis.get(number as usize) {
-        Some(vi) => vi.name.as_slice(),
-        None => &[],
+/// The names that breaks are written with: those of the VIs, and the main one's for a break that
+/// belongs to no VI of the listing, since it is absent.
+#[derive(Clone, Copy)]
+pub(crate) struct Names<'a> {
+    pub main: &'a Name,
+    pub vis: &'a [Vi],
+}
+
+impl Names<'_> {
+    fn of(&self, number: u32) -> &[u8]
+        ensures { result.now ≡ vi_name self.now.main.now self.now.vis.now number }
+    {
+        match self.vis.get(number as usize) {
+            Some(vi) => vi.name.as_slice(),
+            None => self.main.as_slice(),
+        }
     }
 }
 
 /// `VI:L.O`
-fn push_place(alloc: Global, out: &mut Vec<u8>, vis: &[Vi], place: Place) -> Result<(), AllocError>
-    ensures { OnOk result (out.new.items ≡ out.old.items ++ place_text vis.now place) }
+fn push_place(
+    alloc: Global,
+    out: &mut Vec<u8>,
+    names: &Names<'_>,
+    place: Place,
+) -> Result<(), AllocError>
+    ensures { OnOk result (out.new.items ≡ out.old.items ++ place_text names.now.main.now names.now.vis.now place) }
 {
-    out.extend_from_slice(vi_name(vis, place.vi))?;
+    out.extend_from_slice(names.of(place.vi))?;
     out.push(b':')?;
     push_number(alloc, out, place.line as u64)?;
     out.push(b'.')?;
@@ -76,12 +91,12 @@ fn push_place(alloc: Global, out: &mut Vec<u8>, vis: &[Vi], place: Place) -> Res
 fn push_break(
     alloc: Global,
     out: &mut Vec<u8>,
-    vis: &[Vi],
+    names: &Names<'_>,
     broken: &Break,
 ) -> Result<(), AllocError>
-    ensures { OnOk result (out.new.items ≡ out.old.items ++ break_text vis.now broken.now) }
+    ensures { OnOk result (out.new.items ≡ out.old.items ++ break_text names.now.main.now names.now.vis.now broken.now) }
 {
-    push_place(alloc, out, vis, broken.place)?;
+    push_place(alloc, out, names, broken.place)?;
     out.extend_from_slice(b" rule ")?;
     push_number(alloc, out, broken.rule as u64)?;
     out.push(b'\n')?;
@@ -89,12 +104,16 @@ fn push_break(
 }
 
 /// A line for each break.
-pub(crate) fn breaks_text(alloc: Global, vis: &[Vi], breaks: &[Break]) -> Result<Bytes, AllocError>
-    ensures { IfOk result (λ text. text ≡ breaks_text vis.now breaks.now) }
+pub(crate) fn breaks_text(
+    alloc: Global,
+    names: &Names<'_>,
+    breaks: &[Break],
+) -> Result<Bytes, AllocError>
+    ensures { IfOk result (λ text. text ≡ breaks_text names.now.main.now names.now.vis.now breaks.now) }
 {
     let mut out = Vec::new(alloc);
     for broken in breaks {
-        push_break(alloc, &mut out, vis, broken)?;
+        push_break(alloc, &mut out, names, broken)?;
     }
     Ok(List::from_vec(out))
 }

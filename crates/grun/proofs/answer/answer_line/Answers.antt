@@ -4,7 +4,7 @@ use Rattle.g_line.specs.declared.forms.Setting.{Setting}
 use Rattle.g_line.specs.Forms.{HasLine}
 use Rattle.g_listing.specs.Refusal.{IsRefusal}
 use Rattle.grun.specs.declared.answer.Answer.{Answer}
-use Rattle.grun.specs.Answer.{reply, IsHierarchyAnswer, IsAnswer, syntax, printed, runs}
+use Rattle.grun.specs.Answer.{reply, IsRunAnswer, IsAnswer, syntax, printed, runs}
 use Rattle.grun.proofs.answer.answer_line.Goals as goal
 
 pub returns-in-Err-Syntax : goal.returns-in-Err-Syntax
@@ -20,8 +20,8 @@ returns-in-Print c words has =
 pub returns : goal.returns
 returns c =
     IfOk-weaker c.answer_run.result
-    (λ (a : Answer). IsHierarchyAnswer c.in-Run.main c.as_slice.result.now c.in-Ok.h a.trace (reply a.status a.text))
+    (λ (a : Answer). IsRunAnswer c.in-Run.main c.as_slice.result.now c.in-Ok.h a.trace (reply a.status a.text))
     (λ (a : Answer). (words : List (List ℕ)) → HasLine words c.args.line.now → IsAnswer words c.args.bytes.now a.trace (reply a.status a.text))
     (λ a x words has. runs c.in-Run.main c.in-Run.settings c.in-Ok.h a.trace (reply a.status a.text) (subst (HasLine words) c.in-Run.is has) c.requires c.in-Ok.ensures.found
-    (subst (λ (settings : List Setting). IsHierarchyAnswer c.in-Run.main settings c.in-Ok.h a.trace (reply a.status a.text)) c.as_slice.ensures x))
+    (subst (λ (settings : List Setting). IsRunAnswer c.in-Run.main settings c.in-Ok.h a.trace (reply a.status a.text)) c.as_slice.ensures x))
     c.answer_run.ensures

@@ -14,7 +14,7 @@ returns c =
         state = ran.state;
         allowed = c.in_ok-ran.ensures.allowed;
         rest = c.in_ok-ran.ensures.rest;
-        complete = finishes h c.args.controls ran.trace ran.state c.requires.form (well_wired h c.requires.sound) c.requires.controls c.in_ok-ran.ensures.allowed c.in_ok-ran.ensures.rest;
+        complete = finishes h c.args.controls ran.trace ran.state c.requires.form (well_wired h c.args.main.now c.requires.sound) c.requires.controls c.in_ok-ran.ensures.allowed c.in_ok-ran.ensures.rest;
         shown = ap (reply 0) c.in_ok-text.ensures;
       },
     )

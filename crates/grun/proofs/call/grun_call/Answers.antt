@@ -1,4 +1,3 @@
--- proofs/call/grun_call/Answers.antt
 use Rattle.std.proofs.Common.{ℕ, List, subst}
 use Rattle.grun.specs.Answer.{reply}
 use Rattle.grun.specs.Call.{Delivers, answered}
