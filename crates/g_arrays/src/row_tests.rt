@@ -157,3 +157,69 @@ fn parts_in_the_buffer(rt: HostRuntime) -> Result<(), Fail> {
     assert!(rt; replace_is_same(alloc)?);
     Ok(())
 }
+
+/// Whether two numbers give these numbers; None is of what is no number, or isn't there.
+fn gives(
+    alloc: Global,
+    primitive: &Primitive,
+    x: Num,
+    y: Num,
+    first: Option<i128>,
+    second: Option<i128>,
+) -> Result<bool, AllocError> {
+    let mut ins = ValueList::new(alloc);
+    ins.push(Value::Num(x))?;
+    ins.push(Value::Num(y))?;
+    let outs = values(alloc, primitive, &ins)?;
+    Ok(number_at(outs.as_slice(), 0) == first && number_at(outs.as_slice(), 1) == second)
+}
+
+fn absolute(alloc: Global, x: Num) -> Result<Option<i128>, AllocError> {
+    let mut ins = ValueList::new(alloc);
+    ins.push(Value::Num(x))?;
+    let outs = values(alloc, &Primitive::Abs, &ins)?;
+    Ok(number_at(outs.as_slice(), 0))
+}
+
+fn i32_of(n: i128) -> Num {
+    Num::wrapped(Rep::I32, n)
+}
+
+fn i8_of(n: i128) -> Num {
+    Num::wrapped(Rep::I8, n)
+}
+
+fn divides(alloc: Global, x: Num, y: Num, quotient: i128, rest: i128) -> Result<bool, AllocError> {
+    gives(alloc, &Primitive::QuotRem, x, y, Some(quotient), Some(rest))
+}
+
+#[test]
+fn quotients(rt: HostRuntime) -> Result<(), Fail> {
+    let alloc = rt.alloc();
+    assert!(rt; divides(alloc, i32_of(-7), i32_of(2), -4, 1)?);
+    assert!(rt; divides(alloc, i32_of(5), i32_of(0), 0, 5)?);
+    assert!(rt; divides(alloc, i8_of(-128), i8_of(-1), -128, 0)?);
+    Ok(())
+}
+
+#[test]
+fn values_of_numbers(rt: HostRuntime) -> Result<(), Fail> {
+    let alloc = rt.alloc();
+    assert_eq!(rt; absolute(alloc, i8_of(-128))?, Some(-128));
+    let shift = Primitive::Shift;
+    assert!(rt; gives(alloc, &shift, i8_of(-1), i32_of(-1), Some(127), None)?);
+    let one = Num::wrapped(Rep::U8, 1);
+    assert!(rt; gives(alloc, &shift, one, i32_of(8), Some(0), None)?);
+    let wide = Num::wrapped(Rep::U32, 1);
+    assert!(rt;
+        gives(
+            alloc,
+            &Primitive::MaxMin,
+            i32_of(-1),
+            wide,
+            Some(4_294_967_295),
+            Some(1)
+        )?
+    );
+    Ok(())
+}
