@@ -5,7 +5,7 @@ mod check;
 mod coded;
 mod edges;
 mod firsts;
-mod listed;
+pub mod listed;
 mod marks;
 mod named;
 #[cfg(test)]
