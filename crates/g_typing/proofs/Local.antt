@@ -10,7 +10,7 @@ use Rattle.g_diagram.specs.declared.node.Tunnel.TheVariants as line
 use Rattle.g_diagram.specs.Lines.{Wire, Arm, Kind, Const, Apply, Shows, Shared, Obtain, Read, Write, Call, For, While, Case, Sequence, InPlace}
 use Rattle.g_typing.specs.Types.{Types, place, wire_type, wire_types, wire_at, both, then_type, element, referred, whole}
 use Rattle.g_typing.specs.Rows.{unless, has_elements, names_value, has_part, fits_shared, line_misses, lines_miss, kind_misses, primitive_misses}
-use Rattle.g_typing.specs.Typing.{given, kept_if, line_inside, line_outside, lines_inside, lines_outside, result_type, type_or_next}
+use Rattle.g_typing.specs.Typing.{carried, given, kept_if, line_inside, line_outside, lines_inside, lines_outside, result_type, type_or_next}
 use Rattle.g_typing.proofs.Unique.{SameReads}
 
 pub same_left : (M T : Types) (xs ys : List (ℕ × Wire)) → SameReads M T (xs ++ ys) → SameReads M T xs
@@ -22,17 +22,25 @@ same_right M T [] ys h = h
 same_right M T (x ∷ xs) ys h = same_right M T xs ys h.1
 
 -- the operands that a border line reads for what it gives inside
-abbrev pub inside_reads : (d before : ℕ) → Tunnel → List (ℕ × Wire)
+abbrev pub carry_reads : (before : Option ℕ) → Wire → List (ℕ × Wire)
+carry_reads None w = []
+carry_reads (Some b) w = (b, w) ∷ []
+
+carried-local : (M T : Types) (before : Option ℕ) (w : Wire) → SameReads M T (carry_reads before w) → carried M before w ≡ carried T before w
+carried-local M T None w h = refl
+carried-local M T (Some b) w h = h.0
+
+abbrev pub inside_reads : (d : ℕ) → (before : Option ℕ) → Tunnel → List (ℕ × Wire)
 inside_reads d before (line.Tunnel outer inner) = (d, outer) ∷ []
 inside_reads d before (line.Register initial inner next last) = (d, initial) ∷ []
 inside_reads d before (line.Index array inner) = (d, array) ∷ []
-inside_reads d before (line.Carry earlier inner) = (before, earlier) ∷ []
+inside_reads d before (line.Carry earlier inner) = carry_reads before earlier
 inside_reads d before (line.Ref reference inner next same code) = (d, reference) ∷ []
 inside_reads d before (line.Element array index inner next outer) = (d, array) ∷ []
 inside_reads d before (line.Field k cluster inner next outer) = (d, cluster) ∷ []
 inside_reads d before _ = []
 
-pub line_inside-local : (M T : Types) (d b before : ℕ) (t : Tunnel) → SameReads M T (inside_reads d before t) → line_inside M d b before t ≡ line_inside T d b before t
+pub line_inside-local : (M T : Types) (d b : ℕ) (before : Option ℕ) (t : Tunnel) → SameReads M T (inside_reads d before t) → line_inside M d b before t ≡ line_inside T d b before t
 line_inside-local M T d b before (line.Tunnel outer inner) h = ap (given b inner) h.0
 line_inside-local M T d b before (line.Register initial inner next last) h = ap (given b inner) h.0
 line_inside-local M T d b before (line.Kept t inner next last) h = refl
@@ -40,16 +48,16 @@ line_inside-local M T d b before (line.Last inner outer) h = refl
 line_inside-local M T d b before (line.Gather inner outer) h = refl
 line_inside-local M T d b before (line.Index array inner) h = ap (λ o. given b inner (then_type o element)) h.0
 line_inside-local M T d b before (line.Result outer default) h = refl
-line_inside-local M T d b before (line.Carry earlier inner) h = ap (given b inner) h.0
+line_inside-local M T d b before (line.Carry earlier inner) h = ap (given b inner) (carried-local M T before earlier h)
 line_inside-local M T d b before (line.Ref reference inner next same code) h = ap (λ o. given b inner (then_type o referred)) h.0
 line_inside-local M T d b before (line.Element array index inner next outer) h = ap (λ o. given b inner (then_type o element)) h.0
 line_inside-local M T d b before (line.Field k cluster inner next outer) h = ap (λ o. given b inner (then_type o (part k))) h.0
 
-abbrev pub all_inside_reads : (d before : ℕ) → List Tunnel → List (ℕ × Wire)
+abbrev pub all_inside_reads : (d : ℕ) → (before : Option ℕ) → List Tunnel → List (ℕ × Wire)
 all_inside_reads d before [] = []
 all_inside_reads d before (t ∷ ts) = inside_reads d before t ++ all_inside_reads d before ts
 
-pub lines_inside-local : (M T : Types) (d b before : ℕ) (ts : List Tunnel) → SameReads M T (all_inside_reads d before ts) → lines_inside M d b before ts ≡ lines_inside T d b before ts
+pub lines_inside-local : (M T : Types) (d b : ℕ) (before : Option ℕ) (ts : List Tunnel) → SameReads M T (all_inside_reads d before ts) → lines_inside M d b before ts ≡ lines_inside T d b before ts
 lines_inside-local M T d b before [] h = refl
 lines_inside-local M T d b before (t ∷ ts) h =
     ap (λ gs. gs ++ lines_inside M d b before ts) (line_inside-local M T d b before t (same_left M T (inside_reads d before t) (all_inside_reads d before ts) h))

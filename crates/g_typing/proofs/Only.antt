@@ -1,6 +1,6 @@
 -- The steps of a VI give what its lines give, so two typings of it agree on what is decided step by step.
 use Rattle.std.proofs.Common.{◌≡◌, ℕ, true, List, [], ◌∷◌, ◌++◌, refl, ap, sym, ◌∙◌, subst, append_assoc, inl, inr}
-use Rattle.std.specs.Prelude.{◌⊎◌}
+use Rattle.std.specs.Prelude.{◌⊎◌, Option, Some, None}
 use Rattle.std.specs.List.{AllByRecursion}
 use Rattle.std.proofs.lemmas.List.{append-nil}
 use Rattle.std.proofs.lemmas.List.Elements.{All-from_recursion, recursion_from_All}
@@ -22,17 +22,17 @@ gives_append M (x ∷ xs) ys = ap (λ gs. x.gives M ++ gs) (gives_append M xs ys
 
 arms_give : (M : Types) (d : ℕ) (ts : List Tunnel) (arms : List Arm) → all_gives M (arms_steps d ts arms) ≡ arms_inside M d ts arms
 arms_give M d ts [] = refl
-arms_give M d ts (arm ∷ arms) = ap (λ gs. lines_inside M d arm.body arm.body ts ++ gs) (arms_give M d ts arms)
+arms_give M d ts (arm ∷ arms) = ap (λ gs. lines_inside M d arm.body None ts ++ gs) (arms_give M d ts arms)
 
 results_give : (M : Types) (d k : ℕ) (arms : List Arm) (ts : List Tunnel) → all_gives M (results_steps d k arms ts) ≡ results_given M d k arms ts
 results_give M d k arms [] = refl
 results_give M d k arms (t ∷ ts) = ap (λ gs. result_given M d k arms t ++ gs) (results_give M d (next_result t k) arms ts)
 
-parts_give : (M : Types) (d before : ℕ) (ps : List Part) → all_gives M (parts_steps d before ps) ≡ parts_given M d before ps
+parts_give : (M : Types) (d : ℕ) (before : Option ℕ) (ps : List Part) → all_gives M (parts_steps d before ps) ≡ parts_given M d before ps
 parts_give M d before [] = refl
 parts_give M d before (p ∷ ps) =
-    ap (λ gs. lines_inside M d p.body before p.lines ++ (lines_outside M true d p.body p.lines ++ gs)) (parts_give M d p.body ps)
-    ∙ sym (append_assoc (lines_inside M d p.body before p.lines) (lines_outside M true d p.body p.lines) (parts_given M d p.body ps))
+    ap (λ gs. lines_inside M d p.body before p.lines ++ (lines_outside M true d p.body p.lines ++ gs)) (parts_give M d (Some p.body) ps)
+    ∙ sym (append_assoc (lines_inside M d p.body before p.lines) (lines_outside M true d p.body p.lines) (parts_given M d (Some p.body) ps))
 
 -- the steps of a node give what the node gives
 pub kind_gives : (called : Callees) (objects : Objects) (M : Types) (l d : ℕ) (k : Kind) → all_gives M (kind_steps called objects l d k) ≡ kind_given called objects M (ok_at M l d k) d k
@@ -49,7 +49,7 @@ kind_gives called objects M l d (While stop iteration lines body) = simp append-
 kind_gives called objects M l d (Case selector lines arms) =
     gives_append M (arms_steps d lines arms) (results_steps d 0 arms lines)
     ∙ ap (λ gs. gs ++ all_gives M (results_steps d 0 arms lines)) (arms_give M d lines arms) ∙ ap (λ gs. arms_inside M d lines arms ++ gs) (results_give M d 0 arms lines)
-kind_gives called objects M l d (Sequence parts) = parts_give M d d parts
+kind_gives called objects M l d (Sequence parts) = parts_give M d None parts
 kind_gives called objects M l d (InPlace lines body finish) = simp append-nil
 
 abbrev pub entries_steps : Callees → Objects → List Entry → List Step
@@ -113,7 +113,7 @@ abbrev pub AreIn : List Step → List Step → Type 0
 AreIn [] xs = Unit {0}
 AreIn (s ∷ ss) xs = IsIn s xs × AreIn ss xs
 
-local_in : (s : Step) (xs : List Step) → AreLocal xs → IsIn s xs → IsLocal s
+pub local_in : (s : Step) (xs : List Step) → AreLocal xs → IsIn s xs → IsLocal s
 local_in s [] h k = absurd k
 local_in s (x ∷ xs) h (inl e) = subst IsLocal e h.0
 local_in s (x ∷ xs) h (inr k) = local_in s xs h.1 k
@@ -122,7 +122,7 @@ all_local : (ss xs : List Step) → AreLocal xs → AreIn ss xs → AreLocal ss
 all_local [] xs h ks = tt
 all_local (s ∷ ss) xs h ks = (local_in s xs h ks.0, all_local ss xs h ks.1)
 
-holds_in : (M : Types) (s : Step) (xs : List Step) → HoldsAll M xs → IsIn s xs → HaveGiven M (s.gives M)
+pub holds_in : (M : Types) (s : Step) (xs : List Step) → HoldsAll M xs → IsIn s xs → HaveGiven M (s.gives M)
 holds_in M s [] h k = absurd k
 holds_in M s (x ∷ xs) h (inl e) = subst (λ (y : Step). HaveGiven M (y.gives M)) e h.0
 holds_in M s (x ∷ xs) h (inr k) = holds_in M s xs h.1 k

@@ -1,6 +1,6 @@
 -- The steps in which the types of a VI's wires are decided: what a structure gives inside, and what each node gives outside.
 use Rattle.std.proofs.Common.{◌≡◌, ℕ, Bool, true, List, [], ◌∷◌, ◌++◌, refl, ap, ◌∙◌}
-use Rattle.std.specs.Prelude.{Some}
+use Rattle.std.specs.Prelude.{Option, Some, None}
 use Rattle.g_types.specs.declared.ty.Ty.TheVariants as ty
 use Rattle.g_diagram.specs.declared.node.Tunnel.{Tunnel}
 use Rattle.g_diagram.specs.declared.node.Tunnel.TheVariants as line
@@ -22,7 +22,7 @@ ok-local M T l d k h = ap is_none_of (kind_misses-local M T 0 l d k h)
 abbrev pub fixed : List Given → Step
 fixed gs = record { reads = []; gives = λ M. gs }
 
-abbrev pub inside : (d b before : ℕ) → List Tunnel → Step
+abbrev pub inside : (d b : ℕ) → (before : Option ℕ) → List Tunnel → Step
 inside d b before ts = record { reads = all_inside_reads d before ts; gives = λ M. lines_inside M d b before ts }
 
 -- what a loop or a structure in place gives outside
@@ -35,7 +35,7 @@ frame_outside d b ts = record { reads = all_outside_reads d b ts; gives = λ M. 
 
 abbrev pub arms_steps : (d : ℕ) → List Tunnel → List Arm → List Step
 arms_steps d ts [] = []
-arms_steps d ts (arm ∷ arms) = inside d arm.body arm.body ts ∷ arms_steps d ts arms
+arms_steps d ts (arm ∷ arms) = inside d arm.body None ts ∷ arms_steps d ts arms
 
 abbrev pub one_result_reads : (k : ℕ) → List Arm → Tunnel → List (ℕ × Wire)
 one_result_reads k arms (line.Result outer default) = result_reads k arms
@@ -48,16 +48,16 @@ abbrev pub results_steps : (d k : ℕ) → List Arm → List Tunnel → List Ste
 results_steps d k arms [] = []
 results_steps d k arms (t ∷ ts) = result_step d k arms t ∷ results_steps d (next_result t k) arms ts
 
-abbrev pub parts_steps : (d before : ℕ) → List Part → List Step
+abbrev pub parts_steps : (d : ℕ) → (before : Option ℕ) → List Part → List Step
 parts_steps d before [] = []
-parts_steps d before (p ∷ ps) = inside d p.body before p.lines ∷ frame_outside d p.body p.lines ∷ parts_steps d p.body ps
+parts_steps d before (p ∷ ps) = inside d p.body before p.lines ∷ frame_outside d p.body p.lines ∷ parts_steps d (Some p.body) ps
 
 abbrev pub steps_append : List Step → List Step → List Step
 steps_append [] ys = ys
 steps_append (x ∷ xs) ys = x ∷ steps_append xs ys
 
 abbrev pub loop_steps : (l d b : ℕ) → Kind → (iteration : Wire) → List Tunnel → List Step
-loop_steps l d b k iteration ts = fixed (given b iteration (Some whole)) ∷ inside d b b ts ∷ outside l d b k ts ∷ []
+loop_steps l d b k iteration ts = fixed (given b iteration (Some whole)) ∷ inside d b None ts ∷ outside l d b k ts ∷ []
 
 abbrev pub kind_steps : Callees → Objects → (l d : ℕ) → Kind → List Step
 kind_steps called objects l d (Const t literal out) = fixed (given d out (Some t)) ∷ []
@@ -74,12 +74,12 @@ kind_steps called objects l d (Call name inputs outputs) = fixed (given_each d o
 kind_steps called objects l d (For count iteration lines body) = loop_steps l d body (For count iteration lines body) iteration lines
 kind_steps called objects l d (While stop iteration lines body) = loop_steps l d body (While stop iteration lines body) iteration lines
 kind_steps called objects l d (Case selector lines arms) = steps_append (arms_steps d lines arms) (results_steps d 0 arms lines)
-kind_steps called objects l d (Sequence parts) = parts_steps d d parts
-kind_steps called objects l d (InPlace lines body finish) = inside d body body lines ∷ outside l d body (InPlace lines body finish) lines ∷ []
+kind_steps called objects l d (Sequence parts) = parts_steps d None parts
+kind_steps called objects l d (InPlace lines body finish) = inside d body None lines ∷ outside l d body (InPlace lines body finish) lines ∷ []
 
 -- each step gives by what it reads alone
 
-inside-local : (d b before : ℕ) (ts : List Tunnel) → IsLocal (inside d b before ts)
+inside-local : (d b : ℕ) (before : Option ℕ) (ts : List Tunnel) → IsLocal (inside d b before ts)
 inside-local d b before ts M T h = lines_inside-local M T d b before ts h
 
 outside-local : (l d b : ℕ) (k : Kind) (ts : List Tunnel) → IsLocal (outside l d b k ts)
@@ -93,7 +93,7 @@ append-local (x ∷ xs) ys h g = (h.0, append-local xs ys h.1 g)
 
 arms-local : (d : ℕ) (ts : List Tunnel) (arms : List Arm) → AreLocal (arms_steps d ts arms)
 arms-local d ts [] = tt
-arms-local d ts (arm ∷ arms) = (inside-local d arm.body arm.body ts, arms-local d ts arms)
+arms-local d ts (arm ∷ arms) = (inside-local d arm.body None ts, arms-local d ts arms)
 
 result-local : (d k : ℕ) (arms : List Arm) (t : Tunnel) → IsLocal (result_step d k arms t)
 result-local d k arms (line.Result outer default) M T h = ap (given d outer) (result_type-local M T k arms h)
@@ -112,12 +112,12 @@ results-local : (d k : ℕ) (arms : List Arm) (ts : List Tunnel) → AreLocal (r
 results-local d k arms [] = tt
 results-local d k arms (t ∷ ts) = (result-local d k arms t, results-local d (next_result t k) arms ts)
 
-parts-local : (d before : ℕ) (ps : List Part) → AreLocal (parts_steps d before ps)
+parts-local : (d : ℕ) (before : Option ℕ) (ps : List Part) → AreLocal (parts_steps d before ps)
 parts-local d before [] = tt
-parts-local d before (p ∷ ps) = (inside-local d p.body before p.lines, ((λ M T h. lines_outside-local M T true d p.body p.lines h), parts-local d p.body ps))
+parts-local d before (p ∷ ps) = (inside-local d p.body before p.lines, ((λ M T h. lines_outside-local M T true d p.body p.lines h), parts-local d (Some p.body) ps))
 
 loop-local : (l d b : ℕ) (k : Kind) (iteration : Wire) (ts : List Tunnel) → AreLocal (loop_steps l d b k iteration ts)
-loop-local l d b k iteration ts = ((λ M T h. refl), (inside-local d b b ts, (outside-local l d b k ts, tt)))
+loop-local l d b k iteration ts = ((λ M T h. refl), (inside-local d b None ts, (outside-local l d b k ts, tt)))
 
 pub kind-local : (called : Callees) (objects : Objects) (l d : ℕ) (k : Kind) → AreLocal (kind_steps called objects l d k)
 kind-local called objects l d (Const t literal out) = ((λ M T h. refl), tt)
@@ -139,5 +139,5 @@ kind-local called objects l d (Call name inputs outputs) = ((λ M T h. refl), tt
 kind-local called objects l d (For count iteration lines body) = loop-local l d body (For count iteration lines body) iteration lines
 kind-local called objects l d (While stop iteration lines body) = loop-local l d body (While stop iteration lines body) iteration lines
 kind-local called objects l d (Case selector lines arms) = append-local (arms_steps d lines arms) (results_steps d 0 arms lines) (arms-local d lines arms) (results-local d 0 arms lines)
-kind-local called objects l d (Sequence parts) = parts-local d d parts
-kind-local called objects l d (InPlace lines body finish) = (inside-local d body body lines, (outside-local l d body (InPlace lines body finish) lines, tt))
+kind-local called objects l d (Sequence parts) = parts-local d None parts
+kind-local called objects l d (InPlace lines body finish) = (inside-local d body None lines, (outside-local l d body (InPlace lines body finish) lines, tt))

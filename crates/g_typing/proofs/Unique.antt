@@ -4,7 +4,7 @@ use Rattle.std.proofs.Common.{◌≡◌, ℕ, List, [], ◌∷◌, refl, sym, �
 use Rattle.std.specs.Prelude.{◌⊎◌, Some, None}
 use Rattle.g_diagram.specs.Lines.{Wire}
 use Rattle.g_typing.specs.Types.{Types, wire_type}
-use Rattle.g_typing.specs.Typing.{Given, HasGiven}
+use Rattle.g_typing.specs.Typing.{Given, HasGiven, IsGivenTo}
 
 -- what is read, each an operand of a diagram, and what is given by it
 pub record Step : Type 0 where
@@ -22,11 +22,6 @@ IsLocal s = (M T : Types) → SameReads M T s.reads → s.gives M ≡ s.gives T
 abbrev pub AreLocal : List Step → Type 0
 AreLocal [] = Unit {0}
 AreLocal (s ∷ ss) = IsLocal s × AreLocal ss
-
--- whether something is given to a name of a diagram
-abbrev pub IsGivenTo : List Given → ℕ → List ℕ → Type 0
-IsGivenTo [] d name = ⊥
-IsGivenTo (g ∷ gs) d name = ((g.diagram ≡ d) × (g.name ≡ name)) ⊎ IsGivenTo gs d name
 
 abbrev pub HaveGiven : Types → List Given → Type 0
 HaveGiven M [] = Unit {0}
@@ -69,7 +64,7 @@ at_name : (M T : Types) (g : Given) (d : ℕ) (name : List ℕ) → HasGiven M g
 at_name M T g d name m t is =
     subst (λ (e : ℕ). M e name ≡ T e name) is.0 (subst (λ (n : List ℕ). M g.diagram n ≡ T g.diagram n) is.1 (m ∙ sym t))
 
-given_same : (M T : Types) (gs : List Given) → HaveGiven M gs → HaveGiven T gs → Agree M T (IsGivenTo gs)
+pub given_same : (M T : Types) (gs : List Given) → HaveGiven M gs → HaveGiven T gs → Agree M T (IsGivenTo gs)
 given_same M T [] ms ts d name k = absurd k
 given_same M T (g ∷ gs) ms ts d name (inl is) = at_name M T g d name ms.0 ts.0 is
 given_same M T (g ∷ gs) ms ts d name (inr k) = given_same M T gs ms.1 ts.1 d name k

@@ -1,6 +1,6 @@
 -- What each line gives to its sources, and the typing of a VI: each source has the type that its line gives it from the types of its inputs,
 -- and none where that gives none.
-use Rattle.std.specs.Prelude.{ℕ, ◌+◌, ◌≡◌, Bool, true, false, List, [], ◌∷◌, ◌++◌, if◌then◌else◌, Option, Some, None, All}
+use Rattle.std.specs.Prelude.{ℕ, ◌+◌, ◌≡◌, ◌⊎◌, Bool, true, false, List, [], ◌∷◌, ◌++◌, if◌then◌else◌, Option, Some, None, All}
 use Rattle.std.specs.Str.{bytes_eq}
 use Rattle.g_types.specs.declared.ty.Ty.{Ty}
 use Rattle.g_types.specs.declared.ty.Ty.TheVariants as ty
@@ -73,14 +73,19 @@ abbrev pub shared_after : SharedOp → Option Ty → Option (List Ty)
 shared_after op None = None
 shared_after op (Some t) = shared_row op t
 
+-- the type of what stands at an operand in the diagram of the frame before, if there is one
+abbrev pub carried : Types → (before : Option ℕ) → Wire → Option Ty
+carried types None w = None
+carried types (Some b) w = wire_type types b w
+
 -- what a border line gives inside, in diagram b, from the diagram d outside; before is that of the frame before
 
-abbrev pub line_inside : Types → (d b before : ℕ) → Tunnel → List Given
+abbrev pub line_inside : Types → (d b : ℕ) → (before : Option ℕ) → Tunnel → List Given
 line_inside types d b before (line.Tunnel outer inner) = given b inner (wire_type types d outer)
 line_inside types d b before (line.Register initial inner next last) = given b inner (wire_type types d initial)
 line_inside types d b before (line.Kept t inner next last) = given b inner (Some t)
 line_inside types d b before (line.Index array inner) = given b inner (then_type (wire_type types d array) element)
-line_inside types d b before (line.Carry earlier inner) = given b inner (wire_type types before earlier)
+line_inside types d b before (line.Carry earlier inner) = given b inner (carried types before earlier)
 line_inside types d b before (line.Ref reference inner next same code) = given b inner (then_type (wire_type types d reference) referred)
 line_inside types d b before (line.Element array index inner next outer) = given b inner (then_type (wire_type types d array) element)
 line_inside types d b before (line.Field k cluster inner next outer) = given b inner (then_type (wire_type types d cluster) (part k))
@@ -99,7 +104,7 @@ line_outside types ok d b (line.Element array index inner next outer) = given d 
 line_outside types ok d b (line.Field k cluster inner next outer) = given d outer (kept_if ok (wire_type types d cluster))
 line_outside types ok d b _ = []
 
-abbrev pub lines_inside : Types → (d b before : ℕ) → List Tunnel → List Given
+abbrev pub lines_inside : Types → (d b : ℕ) → (before : Option ℕ) → List Tunnel → List Given
 lines_inside types d b before [] = []
 lines_inside types d b before (t ∷ ts) = line_inside types d b before t ++ lines_inside types d b before ts
 
@@ -108,12 +113,12 @@ lines_outside types ok d b [] = []
 lines_outside types ok d b (t ∷ ts) = line_outside types ok d b t ++ lines_outside types ok d b ts
 
 abbrev pub border_given : Types → (ok : Bool) → (d b : ℕ) → List Tunnel → List Given
-border_given types ok d b lines = lines_inside types d b b lines ++ lines_outside types ok d b lines
+border_given types ok d b lines = lines_inside types d b None lines ++ lines_outside types ok d b lines
 
 -- a case's tunnel gives its name in each branch
 abbrev pub arms_inside : Types → (d : ℕ) → List Tunnel → List Arm → List Given
 arms_inside types d lines [] = []
-arms_inside types d lines (arm ∷ arms) = lines_inside types d arm.body arm.body lines ++ arms_inside types d lines arms
+arms_inside types d lines (arm ∷ arms) = lines_inside types d arm.body None lines ++ arms_inside types d lines arms
 
 -- the type of result k, from 0: that of the first branch in which it is wired
 abbrev pub type_or_next : Types → (b : ℕ) → Wire → Option Ty → Option Ty
@@ -141,9 +146,9 @@ results_given types d k arms [] = []
 results_given types d k arms (t ∷ ts) = result_given types d k arms t ++ results_given types d (next_result t k) arms ts
 
 -- the frames of a sequence, after the frame of diagram before
-abbrev pub parts_given : Types → (d before : ℕ) → List Part → List Given
+abbrev pub parts_given : Types → (d : ℕ) → (before : Option ℕ) → List Part → List Given
 parts_given types d before [] = []
-parts_given types d before (p ∷ ps) = lines_inside types d p.body before p.lines ++ lines_outside types true d p.body p.lines ++ parts_given types d p.body ps
+parts_given types d before (p ∷ ps) = lines_inside types d p.body before p.lines ++ lines_outside types true d p.body p.lines ++ parts_given types d (Some p.body) ps
 
 -- panels
 
@@ -195,7 +200,7 @@ kind_given called objects types ok d (Call name inputs outputs) = given_each d o
 kind_given called objects types ok d (For count iteration lines body) = given body iteration (Some whole) ++ border_given types ok d body lines
 kind_given called objects types ok d (While stop iteration lines body) = given body iteration (Some whole) ++ border_given types ok d body lines
 kind_given called objects types ok d (Case selector lines arms) = arms_inside types d lines arms ++ results_given types d 0 arms lines
-kind_given called objects types ok d (Sequence parts) = parts_given types d d parts
+kind_given called objects types ok d (Sequence parts) = parts_given types d None parts
 kind_given called objects types ok d (InPlace lines body finish) = border_given types ok d body lines
 
 abbrev pub entry_given : Callees → Objects → Types → Entry → List Given
@@ -223,5 +228,12 @@ abbrev pub AreTypes : Callees → List PanelItem → List Entry → Types → Ty
 AreTypes called panel es types = All (HasGiven types) (all_given called panel es types)
 
 -- the types of the wires of a VI
-abbrev pub IsTyping : List Vi → Vi → Types → Type 0
-IsTyping vis vi types = AreTypes (called_panel vis) vi.panel (entries_of vi) types
+-- whether something is given to a name of a diagram
+abbrev pub IsGivenTo : List Given → (diagram : ℕ) → (name : List ℕ) → Type 0
+IsGivenTo [] d name = ⊥
+IsGivenTo (g ∷ gs) d name = ((g.diagram ≡ d) × (g.name ≡ name)) ⊎ IsGivenTo gs d name
+
+pub record IsTyping (vis : List Vi) (vi : Vi) (types : Types) : Type 0 where
+  pub given : AreTypes (called_panel vis) vi.panel (entries_of vi) types
+  -- what no line gives has no type
+  pub no_more : (d : ℕ) (name : List ℕ) → (IsGivenTo (all_given (called_panel vis) vi.panel (entries_of vi) types) d name → ⊥) → types d name ≡ None

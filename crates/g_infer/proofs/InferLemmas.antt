@@ -1,0 +1,374 @@
+-- The types of a hierarchy and its breaks, from what is found of its VIs.
+use Rattle.std.proofs.Common.{◌≡◌, ⊎_elim, ℕ, zero, suc, ◌+◌, ◌<◌, ◌≤◌, ◌==◌, true, false, cond, ◌&&◌, List, [], ◌∷◌, ◌++◌, map, length, refl, ap, sym, ◌∙◌, subst, append_assoc, length-append, arith}
+use Rattle.std.specs.Prelude.{Option, Some, None, slice_get}
+use Rattle.std.specs.declared.cmp.Ordering.{Ordering}
+use Rattle.std.specs.declared.cmp.Ordering.TheVariants.{Less, Equal, Greater}
+use Rattle.std.specs.Ordering.{ordering_then, nat_cmp, is_eq}
+use Rattle.std.specs.Cmp.{unsigned_tied, eq_by_cmp_equiv, both_ways}
+use Rattle.std.specs.Cmp.Lexicographic.{slice_cmp}
+use Rattle.std.specs.List.{Contains, list_all, AllByRecursion}
+use Rattle.std.specs.List.Sorted.{IsStrictlySortedBy}
+use Rattle.std.specs.Map.{lookup}
+use Rattle.std.specs.Option.{option_map}
+use Rattle.std.specs.Str.{bytes_eq}
+use Rattle.std.proofs.lemmas.List.{append-nil}
+use Rattle.std.proofs.lemmas.Option.{slice_get_within}
+use Rattle.std.proofs.lemmas.List.Elements.{recursion_from_All, Contains-append_left, Contains-append_right, Contains-append_cases}
+use Rattle.std.proofs.lemmas.Map.Text.{is_eq-slice_cmp}
+use Rattle.std.proofs.lemmas.Slice.Eq.{bytes_eq-Decides}
+use Rattle.std.proofs.lemmas.Map.Views.{Contains-from_any, list_any-from_Contains}
+use denote.Ref.{Bor}
+use mathlib.Core.Path.{fun_ext}
+use Rattle.g_types.specs.declared.ty.Ty.{Ty}
+use Rattle.g_line_breaks.proofs.QueueLemmas.{same_type-same}
+use Rattle.g_diagram.specs.declared.hierarchy.Hierarchy.{Hierarchy}
+use Rattle.g_diagram.specs.declared.hierarchy.Vi.{Vi}
+use Rattle.g_diagram.specs.declared.panel.PanelItem.{PanelItem}
+use Rattle.g_diagram.specs.declared.place.Break.{Break}
+use Rattle.g_diagram.specs.Leads.{Leads}
+use Rattle.g_diagram.specs.Lines.{Entry, entries_of}
+use Rattle.g_diagram.specs.Ports.{first_vi, ports_of, has_wire}
+use Rattle.g_typing.specs.Types.{Types}
+use Rattle.g_typing.specs.Typing.{Given, Callees, Objects, HasGiven, AreTypes, IsTyping, panel_type, panel_of, called_panel}
+use Rattle.g_typing.specs.Breaks.{TypeBreak, breaks_with}
+use Rattle.g_typing.proofs.Agreed.{Typed as IsTypingBy, one_typing}
+use Rattle.g_typable.specs.Typable.{IsTypable}
+use Rattle.g_wires.specs.Breaks.{place_cmp, break_cmp, has_break, ListsEach}
+use Rattle.g_wires.proofs.Sorting.{break_total}
+use Rattle.g_wires.proofs.Found.{and_left, and_right, and_both, same_number}
+use Rattle.g_infer.specs.declared.typed.SourceType.{SourceType}
+use Rattle.g_infer.specs.declared.typed.Typed.{Typed}
+use Rattle.g_infer.specs.declared.typed.ViTypes.{ViTypes}
+use Rattle.g_infer.specs.Answer.{types_in, HasTyping, IsTyped}
+use Rattle.g_infer.specs.Checked.{same_known, has_given, given_by, are_types, IsJudged}
+use Rattle.g_infer.specs.Inferred.{told_source, AreTypings, all_breaks, Inferred}
+use Rattle.g_infer.specs.Known.{Table, types_of}
+use Rattle.g_infer.specs.Panels.{or_nothing}
+use Rattle.g_infer.proofs.PlaceLemmas.{told_in}
+
+-- ---- what calls mean
+
+panel_same : (o : Option Vi) → or_nothing (option_map (λ (vi : Vi). vi.panel) o) ≡ panel_of o
+panel_same None = refl
+panel_same (Some vi) = refl
+
+pub callees_same : (called : Callees) (vis : List Vi) → ((name : List ℕ) → called name ≡ or_nothing (option_map (λ (vi : Vi). vi.panel) (first_vi vis name))) → called ≡ called_panel vis
+callees_same called vis h = fun_ext (λ name. h name ∙ panel_same (first_vi vis name))
+
+pub objects_same : (objects : Objects) (panel : List PanelItem) → ((name : List ℕ) → objects name ≡ panel_type panel name) → objects ≡ panel_type panel
+objects_same objects panel h = fun_ext h
+
+-- ---- a table of types, told
+
+is_eq-then : (r o : Ordering) → is_eq (ordering_then r o) ≡ (is_eq r && is_eq o)
+is_eq-then Less o = refl
+is_eq-then Equal o = refl
+is_eq-then Greater o = refl
+
+same_number_back : (d e : ℕ) → (d == e) ≡ (e == d)
+same_number_back d e = grind arith
+
+same_bytes_back : (a b : List ℕ) → bytes_eq a b ≡ bytes_eq b a
+same_bytes_back a b =
+    both_ways (bytes_eq a b) (bytes_eq b a) (λ h. (bytes_eq-Decides b a).1 (sym ((bytes_eq-Decides a b).0 h))) (λ h. (bytes_eq-Decides a b).1 (sym ((bytes_eq-Decides b a).0 h)))
+
+key_is : (d : ℕ) (name : List ℕ) (e : ℕ) (other : List ℕ) → is_eq (ordering_then (nat_cmp d e) (slice_cmp nat_cmp name other)) ≡ ((e == d) && bytes_eq other name)
+key_is d name e other =
+    is_eq-then (nat_cmp d e) (slice_cmp nat_cmp name other)
+    ∙ ap (λ b. b && is_eq (slice_cmp nat_cmp name other)) (unsigned_tied d e ∙ same_number_back d e)
+    ∙ ap (λ b. (e == d) && b) (is_eq-slice_cmp name other ∙ same_bytes_back name other)
+
+abbrev pub TableEntry : Type 0
+TableEntry = (ℕ × Bor (List ℕ)) × Ty
+
+-- a list of the entries tells what the table has
+told_entries : (es : List TableEntry) (d : ℕ) (name : List ℕ)
+    → types_in (map told_source es) d name ≡ lookup (λ (k : ℕ × Bor (List ℕ)). is_eq (ordering_then (nat_cmp d k.0) (slice_cmp nat_cmp name k.1.now))) es
+told_entries [] d name = refl
+told_entries (e ∷ es) d name =
+    ap (λ b. cond b (Some e.1) (types_in (map told_source es) d name)) (sym (key_is d name e.0.0 e.0.1.now))
+    ∙ ap (cond (is_eq (ordering_then (nat_cmp d e.0.0) (slice_cmp nat_cmp name e.0.1.now))) (Some e.1)) (told_entries es d name)
+
+pub types_told : (table : Table) (sources : List SourceType) → sources ≡ map told_source table.entries → (d : ℕ) (name : List ℕ) → types_in sources d name ≡ types_of table d name
+types_told table sources e d name = ap (λ (ss : List SourceType). types_in ss d name) e ∙ told_entries table.entries d name
+
+-- ---- typings pass the test
+
+same_itself : (t : Option Ty) → same_known t t ≡ true
+same_itself None = refl
+same_itself (Some t) = same_type-same t
+
+pass_all : (M : Types) (gs : List Given) → AllByRecursion (HasGiven M) gs → list_all (has_given M) gs ≡ true
+pass_all M [] h = refl
+pass_all M (g ∷ gs) h =
+    and_both (has_given M g) (list_all (has_given M) gs) (ap (λ t. same_known t g.type) h.0 ∙ same_itself g.type) (pass_all M gs h.1)
+
+pub typing_passes : (called : Callees) (panel : List PanelItem) (es : List Entry) (M : Types) → AreTypes called panel es M → are_types called (panel_type panel) panel es M ≡ true
+typing_passes called panel es M h =
+    pass_all M (given_by called (panel_type panel) panel es M) (recursion_from_All (HasGiven M) (given_by called (panel_type panel) panel es M) h)
+
+-- so what is told by a typing is told
+pub never_none : {X : Type 0} (called : Callees) (objects : Objects) (panel : List PanelItem) (es : List Entry) (M : Types) (v : ℕ) (f : X → List Break) (o : Option X) → objects ≡ panel_type panel
+    → IsTypingBy called panel es M → IsJudged called objects panel es M v (option_map f o) → o ≡ None → ⊥
+never_none called objects panel es M v f (Some x) eo typing h e = cc
+never_none called objects panel es M v f None eo typing h e =
+    let yes : are_types called objects panel es M ≡ true = ap (λ (os : Objects). are_types called os panel es M) eo ∙ typing_passes called panel es M typing.given in
+    let no : true ≡ false = sym yes ∙ h in cc
+
+-- ---- the same types, nodes and panels by other names
+
+types_same : (sources : List SourceType) (M : Types) → ((d : ℕ) (name : List ℕ) → types_in sources d name ≡ M d name) → M ≡ types_in sources
+types_same sources M h = fun_ext (λ d. fun_ext (λ name. sym (h d name)))
+
+pub typing_told : (called : Callees) (panel : List PanelItem) (es : List Entry) (sources : List SourceType) (M : Types) → ((d : ℕ) (name : List ℕ) → types_in sources d name ≡ M d name)
+    → IsTypingBy called panel es M → IsTypingBy called panel es (types_in sources)
+typing_told called panel es sources M h typing =
+    let P : Types → Type 0 = λ types. IsTypingBy called panel es types in
+    subst P (types_same sources M h) typing
+
+pub breaks_told : (called : Callees) (panel : List PanelItem) (es : List Entry) (sources : List SourceType) (M : Types) (v : ℕ) (old new : List Break)
+    → ((d : ℕ) (name : List ℕ) → types_in sources d name ≡ M d name) → new ≡ old ++ breaks_with called panel M v es → new ≡ old ++ breaks_with called panel (types_in sources) v es
+breaks_told called panel es sources M v old new h e = e ∙ ap (λ (types : Types). old ++ breaks_with called panel types v es) (types_same sources M h)
+
+pub typable_at : (called : Callees) (panel own : List PanelItem) (es all : List Entry) → panel ≡ own → es ≡ all → IsTypable called own all → IsTypable called panel es
+typable_at called panel own es all ep ee h =
+    let P : List PanelItem → Type 0 = λ items. IsTypable called items es in
+    let Q : List Entry → Type 0 = λ entries. IsTypable called own entries in
+    subst P (sym ep) (subst Q (sym ee) h)
+
+pub typing_at : (called : Callees) (panel own : List PanelItem) (es all : List Entry) (M : Types) → panel ≡ own → es ≡ all → IsTypingBy called panel es M → IsTypingBy called own all M
+typing_at called panel own es all M ep ee h =
+    let P : List PanelItem → Type 0 = λ items. IsTypingBy called items es M in
+    let Q : List Entry → Type 0 = λ entries. IsTypingBy called own entries M in
+    subst Q ee (subst P ep h)
+
+pub breaks_at : (called : Callees) (panel own : List PanelItem) (es all : List Entry) (M : Types) (v : ℕ) (old new : List Break) → panel ≡ own → es ≡ all
+    → new ≡ old ++ breaks_with called panel M v es → new ≡ old ++ breaks_with called own M v all
+breaks_at called panel own es all M v old new ep ee h =
+    h ∙ ap (λ (items : List PanelItem). old ++ breaks_with called items M v es) ep ∙ ap (λ (entries : List Entry). old ++ breaks_with called own M v entries) ee
+
+-- ---- one VI more
+
+some_same : {X : Type 0} (x y : X) → Some x ≡ Some y → x ≡ y
+some_same x y e = cc
+
+pub typings_more : (called : Callees) (vis : List Vi) (ts : List ViTypes) (vi : Vi) (t : ViTypes) → slice_get vis (length ts) ≡ Some vi → AreTypings called vis ts
+    → IsTypingBy called vi.panel (entries_of vi) (types_in t.sources) → AreTypings called vis (ts ++ t ∷ [])
+typings_more called [] [] vi t at h k = absurd cc
+typings_more called (v ∷ vis) [] vi t at h k =
+    let P : Vi → Type 0 = λ w. IsTypingBy called w.panel (entries_of w) (types_in t.sources) in
+    (subst P (sym (some_same v vi at)) k, tt)
+typings_more called [] (u ∷ ts) vi t at h k = h
+typings_more called (v ∷ vis) (u ∷ ts) vi t at h k = (h.0, typings_more called vis ts vi t at h.1 k)
+
+abbrev told_by : Callees → ℕ → Vi → ViTypes → List Break
+told_by called number vi t = breaks_with called vi.panel (types_in t.sources) number (entries_of vi)
+
+told_same : (called : Callees) (m n : ℕ) (v w : Vi) (t u : ViTypes) → m ≡ n → v ≡ w → t ≡ u → told_by called m v t ≡ told_by called n w u
+told_same called m n v w t u em ev et = ap (λ k. told_by called k v t) em ∙ ap (λ (x : Vi). told_by called n x t) ev ∙ ap (λ (x : ViTypes). told_by called n w x) et
+
+breaks_more : (called : Callees) (number m : ℕ) (vis : List Vi) (ts : List ViTypes) (vi : Vi) (t : ViTypes) → slice_get vis (length ts) ≡ Some vi → m ≡ number + length ts
+    → all_breaks called number vis (ts ++ t ∷ []) ≡ all_breaks called number vis ts ++ told_by called m vi t
+breaks_more called number m [] [] vi t at e = absurd cc
+breaks_more called number m (v ∷ vis) [] vi t at e =
+    append-nil (told_by called number v t) ∙ told_same called number m v vi t t (omega (arith, e)) (some_same v vi at) refl
+breaks_more called number m [] (u ∷ ts) vi t at e = absurd cc
+breaks_more called number m (v ∷ vis) (u ∷ ts) vi t at e =
+    ap (λ bs. told_by called number v u ++ bs) (breaks_more called (number + 1) m vis ts vi t at (omega (arith, e)))
+    ∙ sym (append_assoc (told_by called number v u) (all_breaks called (number + 1) vis ts) (told_by called m vi t))
+
+pub inferred_none : (called : Callees) (vis : List Vi) (found : List ViTypes) (told : List Break) → found ≡ [] → told ≡ [] → Inferred called vis 0 found told
+inferred_none called vis found told e f =
+    let P : List ViTypes → Type 0 = λ ts. Inferred called vis 0 ts told in
+    subst P (sym e) (record { count = refl; typings = tt; breaks = f })
+
+pub inferred_more : (called : Callees) (vis : List Vi) (n : ℕ) (vi : Vi) (t : ViTypes) (old found : List ViTypes) (before told : List Break) → slice_get vis n ≡ Some vi
+    → Inferred called vis n old before → found ≡ old ++ t ∷ [] → IsTypingBy called vi.panel (entries_of vi) (types_in t.sources)
+    → told ≡ before ++ breaks_with called vi.panel (types_in t.sources) n (entries_of vi) → Inferred called vis (n + 1) found told
+inferred_more called vis n vi t old found before told at i e typing more =
+    let here : slice_get vis (length old) ≡ Some vi = ap (slice_get vis) i.count ∙ at in
+    let P : List ViTypes → Type 0 = λ ts. Inferred called vis (n + 1) ts told in
+    subst P (sym e) (record {
+      count = let c = i.count in length-append old (t ∷ []) ∙ ap (λ k. k + 1) c;
+      typings = typings_more called vis old vi t here i.typings typing;
+      breaks = more ∙ ap (λ bs. bs ++ told_by called n vi t) i.breaks ∙ sym (breaks_more called 0 n vis old vi t here (let c = i.count in omega (arith, c)));
+    })
+
+-- the same by what is known of calls, and the number of the VI
+pub inferred_next : (known : Callees) (vis : List Vi) (n number : ℕ) (vi : Vi) (t : ViTypes) (old found : List ViTypes) (before told : List Break) → known ≡ called_panel vis → number ≡ n
+    → slice_get vis n ≡ Some vi → Inferred (called_panel vis) vis n old before → found ≡ old ++ t ∷ [] → IsTypingBy known vi.panel (entries_of vi) (types_in t.sources)
+    → told ≡ before ++ breaks_with known vi.panel (types_in t.sources) number (entries_of vi) → Inferred (called_panel vis) vis (n + 1) found told
+inferred_next known vis n number vi t old found before told ek en at i e typing more =
+    let P : Callees → Type 0 = λ called. IsTypingBy called vi.panel (entries_of vi) (types_in t.sources) in
+    inferred_more (called_panel vis) vis n vi t old found before told at i e (subst P ek typing)
+    (more ∙ ap (λ (called : Callees). before ++ breaks_with called vi.panel (types_in t.sources) number (entries_of vi)) ek
+    ∙ ap (λ k. before ++ breaks_with (called_panel vis) vi.panel (types_in t.sources) k (entries_of vi)) en)
+
+pub typable_by : (known : Callees) (vis : List Vi) (vi : Vi) → known ≡ called_panel vis → IsTypable (called_panel vis) vi.panel (entries_of vi) → IsTypable known vi.panel (entries_of vi)
+typable_by known vis vi ek h =
+    let P : Callees → Type 0 = λ called. IsTypable called vi.panel (entries_of vi) in
+    subst P (sym ek) h
+
+-- ---- what is found at a VI
+
+record FoundAt (called : Callees) (vi : Vi) (o : Option ViTypes) : Type 0 where
+  found : ViTypes
+  is : o ≡ Some found
+  typing : IsTypingBy called vi.panel (entries_of vi) (types_in found.sources)
+
+found_at : (called : Callees) (vis : List Vi) (ts : List ViTypes) (k : ℕ) (vi : Vi) → AreTypings called vis ts → k < length ts → slice_get vis k ≡ Some vi → FoundAt called vi (slice_get ts k)
+found_at called [] ts k vi h lt at = absurd cc
+found_at called (v ∷ vis) [] k vi h lt at = absurd (omega arith)
+found_at called (v ∷ vis) (t ∷ ts) zero vi h lt at =
+    let P : Vi → Type 0 = λ w. IsTypingBy called w.panel (entries_of w) (types_in t.sources) in
+    record { found = t; is = refl; typing = subst P (some_same v vi at) h.0 }
+found_at called (v ∷ vis) (t ∷ ts) (suc k) vi h lt at = found_at called vis ts k vi h.1 (omega (arith, lt)) at
+
+-- a break told of one VI is told
+told_of_one : (called : Callees) (number m : ℕ) (vis : List Vi) (ts : List ViTypes) (k : ℕ) (vi : Vi) (t : ViTypes) (b : Break) → slice_get vis k ≡ Some vi → slice_get ts k ≡ Some t
+    → m ≡ number + k → Contains (told_by called m vi t) b → Contains (all_breaks called number vis ts) b
+told_of_one called number m [] ts k vi t b at is e h = absurd cc
+told_of_one called number m (v ∷ vis) [] k vi t b at is e h = absurd cc
+told_of_one called number m (v ∷ vis) (u ∷ ts) zero vi t b at is e h =
+    let P : List Break → Type 0 = λ bs. Contains bs b in
+    Contains-append_left (told_by called number v u) (all_breaks called (number + 1) vis ts) b
+    (subst P (told_same called m number vi v t u (omega (arith, e)) (sym (some_same v vi at)) (sym (some_same u t is))) h)
+told_of_one called number m (v ∷ vis) (u ∷ ts) (suc k) vi t b at is e h =
+    Contains-append_right (told_by called number v u) (all_breaks called (number + 1) vis ts) b (told_of_one called (number + 1) m vis ts k vi t b at is (omega (arith, e)) h)
+
+-- a break that is told is told of one VI
+record ToldAt (called : Callees) (number : ℕ) (vis : List Vi) (ts : List ViTypes) (b : Break) : Type 0 where
+  at : ℕ
+  vi : Vi
+  types : ViTypes
+  stands : slice_get vis at ≡ Some vi
+  found : slice_get ts at ≡ Some types
+  told : Contains (told_by called (number + at) vi types) b
+
+none_in : {X : Type 0} {T : Type 0} (x : X) → Contains [] x → T
+none_in x h = let lt = h.1 in absurd (omega (arith, lt))
+
+told_at : (called : Callees) (number : ℕ) (vis : List Vi) (ts : List ViTypes) (b : Break) → Contains (all_breaks called number vis ts) b → ToldAt called number vis ts b
+told_at called number vis [] b h = none_in b h
+told_at called number [] (t ∷ ts) b h = none_in b h
+told_at called number (v ∷ vis) (t ∷ ts) b h =
+    let P : List Break → Type 0 = λ bs. Contains bs b in
+    ⊎_elim
+    (λ c. record { at = zero; vi = v; types = t; stands = refl; found = refl; told = subst P (told_same called number (number + zero) v v t t (omega arith) refl refl) c })
+    (λ c. let r : ToldAt called (number + 1) vis ts b = told_at called (number + 1) vis ts b c in
+    record { at = suc r.at; vi = r.vi; types = r.types; stands = r.stands; found = r.found; told = subst P (told_same called (number + 1 + r.at) (number + suc r.at) r.vi r.vi r.types r.types (omega arith) refl refl) r.told })
+    (Contains-append_cases (told_by called number v t) (all_breaks called (number + 1) vis ts) b h)
+
+-- ---- breaks by their order
+
+same_by : (m n : ℕ) → is_eq (nat_cmp m n) ≡ true → m ≡ n
+same_by m n h = same_number m n (sym (unsigned_tied m n) ∙ h)
+
+then_both : (r o : Ordering) → is_eq (ordering_then r o) ≡ true → (is_eq r ≡ true) × (is_eq o ≡ true)
+then_both r o h = let e = sym (is_eq-then r o) ∙ h in (and_left (is_eq r) (is_eq o) e, and_right (is_eq r) (is_eq o) e)
+
+abbrev made : (vi line operand rule : ℕ) → Break
+made v l o r = record { place = record { vi = v; line = l; operand = o }; rule = r }
+
+exact : (b c : Break) → is_eq (break_cmp b c) ≡ true → b ≡ c
+exact b c h =
+    let whole = then_both (place_cmp b.place c.place) (nat_cmp b.rule c.rule) h in
+    let vi = then_both (nat_cmp b.place.vi c.place.vi) (ordering_then (nat_cmp b.place.line c.place.line) (nat_cmp b.place.operand c.place.operand)) whole.0 in
+    let line = then_both (nat_cmp b.place.line c.place.line) (nat_cmp b.place.operand c.place.operand) vi.1 in
+    ap (λ x. made x b.place.line b.place.operand b.rule) (same_by b.place.vi c.place.vi vi.0)
+    ∙ ap (λ x. made c.place.vi x b.place.operand b.rule) (same_by b.place.line c.place.line line.0)
+    ∙ ap (λ x. made c.place.vi c.place.line x b.rule) (same_by b.place.operand c.place.operand line.1)
+    ∙ ap (made c.place.vi c.place.line c.place.operand) (same_by b.rule c.rule whole.1)
+
+has_contained : (bs : List Break) (b : Break) → has_break bs b ≡ true → Contains bs b
+has_contained bs b h = Contains-from_any exact b bs h
+
+contained_has : (bs : List Break) (b : Break) → Contains bs b → has_break bs b ≡ true
+contained_has bs b h = list_any-from_Contains (eq_by_cmp_equiv break_total) b bs h
+
+pub none_left : (bs : List Break) → length bs ≤ 0 → bs ≡ []
+none_left [] le = refl
+none_left (b ∷ bs) le = absurd (omega (arith, le))
+
+-- ---- the hierarchy
+
+abbrev pub NoneTurn : Hierarchy → Type 0
+NoneTurn h = (k : ℕ) (vi : Vi) → slice_get h.vis k ≡ Some vi → (v : ℕ) → Leads (has_wire (ports_of h.vis vi)) v v → ⊥
+
+typing_of : (vis : List Vi) (vi : Vi) (M : Types) → IsTypingBy (called_panel vis) vi.panel (entries_of vi) M → IsTyping vis vi M
+typing_of vis vi M m = record { given = m.given; no_more = m.no_more }
+
+abbrev pub AllInferred : List Vi → List ViTypes → List Break → Type 0
+AllInferred vis found told = Inferred (called_panel vis) vis (length vis) found told
+
+pub all_inferred : (vis own : List Vi) (found : List ViTypes) (told : List Break) → vis ≡ own → AllInferred vis found told → AllInferred own found told
+all_inferred vis own found told e i =
+    let P : List Vi → Type 0 = λ vs. AllInferred vs found told in
+    subst P e i
+
+abbrev AllTypable : List Vi → Type 0
+AllTypable vis = (k : ℕ) (vi : Vi) → slice_get vis k ≡ Some vi → IsTypable (called_panel vis) vi.panel (entries_of vi)
+
+pub all_typable : (vis own : List Vi) → vis ≡ own → AllTypable own → AllTypable vis
+all_typable vis own e h = subst AllTypable (sym e) h
+
+module _ (h : Hierarchy) (found : List ViTypes) (told : List Break) (none : NoneTurn h) (i : AllInferred h.vis found told) where
+  abbrev called : Callees
+  called = called_panel h.vis
+
+  at_vi : (k : ℕ) (vi : Vi) → slice_get h.vis k ≡ Some vi → FoundAt called vi (slice_get found k)
+  at_vi k vi at = let lt = slice_get_within h.vis k vi at in let c = i.count in found_at called h.vis found k vi i.typings (omega (arith, lt, c)) at
+
+  each_told : (b : Break) → TypeBreak h b → Contains told b
+  each_told b t =
+      let f : FoundAt called t.vi (slice_get found b.place.vi) = at_vi b.place.vi t.vi t.stands in
+      let same : t.types ≡ types_in f.found.sources = one_typing h.vis t.vi t.types (types_in f.found.sources) (none b.place.vi t.vi t.stands) t.typing (typing_of h.vis t.vi (types_in f.found.sources) f.typing) in
+      let P : List Break → Type 0 = λ bs. Contains bs b in
+      let Q : Types → Type 0 = λ types. Contains (breaks_with called t.vi.panel types b.place.vi (entries_of t.vi)) b in
+      subst P (sym i.breaks) (told_of_one called 0 b.place.vi h.vis found b.place.vi t.vi f.found b t.stands f.is (omega arith) (subst Q same t.is_broken))
+
+  only_told : (b : Break) → Contains told b → TypeBreak h b
+  only_told b c =
+      let P : List Break → Type 0 = λ bs. Contains bs b in
+      let r : ToldAt called 0 h.vis found b = told_at called 0 h.vis found b (subst P i.breaks c) in
+      let at : b.place.vi ≡ 0 + r.at = told_in called (panel_type r.vi.panel) r.vi.panel (types_in r.types.sources) (0 + r.at) (entries_of r.vi) b r.told in
+      let here : b.place.vi ≡ r.at = omega (arith, at) in
+      let f : FoundAt called r.vi (slice_get found r.at) = at_vi r.at r.vi r.stands in
+      let same : f.found ≡ r.types = some_same f.found r.types (sym f.is ∙ r.found) in
+      let Q : ℕ → Type 0 = λ k. slice_get h.vis k ≡ Some r.vi in
+      let R : ℕ → Type 0 = λ k. Contains (told_by called k r.vi r.types) b in
+      let T : ViTypes → Type 0 = λ types. IsTypingBy called r.vi.panel (entries_of r.vi) (types_in types.sources) in
+      record {
+        vi = r.vi;
+        stands = subst Q (sym here) r.stands;
+        types = types_in r.types.sources;
+        typing = typing_of h.vis r.vi (types_in r.types.sources) (subst T same f.typing);
+        is_broken = subst R (sym at) r.told;
+      }
+
+  pub lists_each : (bs : List Break) → IsStrictlySortedBy break_cmp bs → ((b : Break) → has_break bs b ≡ has_break told b) → ListsEach (TypeBreak h) bs
+  lists_each bs order same = record {
+    ascending = order;
+    only = λ b e. only_told b (has_contained told b (sym (same b) ∙ e));
+    each = λ b t. same b ∙ contained_has told b (each_told b t);
+  }
+
+  only_typing : (k : ℕ) (vi : Vi) → slice_get h.vis k ≡ Some vi → (o : Option ViTypes) → FoundAt called vi o → HasTyping h.vis vi o
+  only_typing k vi at None f = let e = f.is in absurd cc
+  only_typing k vi at (Some t) f =
+      let same : f.found ≡ t = some_same f.found t (sym f.is) in
+      let T : ViTypes → Type 0 = λ types. IsTypingBy called vi.panel (entries_of vi) (types_in types.sources) in
+      let typing : IsTyping h.vis vi (types_in t.sources) = typing_of h.vis vi (types_in t.sources) (subst T same f.typing) in
+      record { typing = typing; only = λ others m. one_typing h.vis vi others (types_in t.sources) (none k vi at) m typing }
+
+  none_listed : (bs : List Break) (b : Break) → length bs ≤ 0 → has_break bs b ≡ true → ⊥
+  none_listed [] b le e = cc
+  none_listed (c ∷ bs) b le e = omega arith
+
+  pub is_typed : (typed : Typed) (bs : List Break) → typed.vis ≡ found → length bs ≤ 0 → ((b : Break) → has_break bs b ≡ has_break told b) → IsTyped h typed
+  is_typed typed bs e le same =
+      let P : List ViTypes → Type 0 = λ ts. (k : ℕ) (vi : Vi) → slice_get h.vis k ≡ Some vi → HasTyping h.vis vi (slice_get ts k) in
+      record {
+        each = subst P (sym e) (λ k vi at. only_typing k vi at (slice_get found k) (at_vi k vi at));
+        unbroken = λ b t. none_listed bs b le (same b ∙ contained_has told b (each_told b t));
+      }

@@ -1,0 +1,13 @@
+pub mod Known
+pub mod Calls
+pub mod Panels
+pub mod Given
+pub mod Checked
+pub mod Gaps
+pub mod Steps
+pub mod Reads
+pub mod Gives
+pub mod Answer
+pub mod Feeding
+pub mod Walking
+pub mod Inferred

@@ -1,0 +1,176 @@
+//! The types of all wires of a hierarchy.
+
+ghost use Rattle.std.specs.Prelude.{◌≡◌, ◌++◌, ℕ, List as TheList, [], length, map, Some, slice_get, IfOk, IfErr, OnOk, MatchResult};
+ghost use Rattle.g_diagram.specs.declared.hierarchy.Vi.{Vi as TheVi};
+ghost use Rattle.g_diagram.specs.Leads.{Leads};
+ghost use Rattle.g_diagram.specs.Lines.{entries_of};
+ghost use Rattle.g_diagram.specs.Ports.{ports_of, has_wire};
+ghost use Rattle.g_table.specs.Seen.{seen};
+ghost use Rattle.g_typable.specs.Typable.{IsTypable};
+ghost use Rattle.g_typing.proofs.Agreed.{Typed as IsTypingBy};
+ghost use Rattle.g_typing.specs.Breaks.{breaks_with};
+ghost use Rattle.g_typing.specs.Typing.{called_panel, panel_type};
+ghost use Rattle.g_wires.specs.Breaks.{IsWiring};
+ghost use Rattle.g_infer.specs.Answer.{IsTyped, Refuses, types_in};
+ghost use Rattle.g_infer.specs.Inferred.{Inferred};
+ghost use Rattle.g_infer.specs.Known.{types_of};
+ghost use Rattle.g_infer.specs.Panels.{callees_in, objects_in};
+
+use crate::judge::judge;
+use crate::panels::{ObjectTypes, Panels, object_types, panels};
+use crate::places::next;
+use crate::typed::{InferRefused, SourceType, Typed, ViTypes};
+use crate::types::WireTypes;
+use crate::walk::vi_types;
+use g_diagram::{Break, Hierarchy, PanelItem, Vi};
+use g_lists::List;
+use g_table::Entry;
+use g_table::table::table;
+use g_typable::typable_laws;
+use g_types::Name;
+use g_wires::listed::listed;
+use std::alloc::{AllocError, Global};
+
+/// The types as they are told.
+fn listed_types<'a>(alloc: Global, types: WireTypes<'a>) -> Result<ViTypes, AllocError>
+    ensures { IfOk result (λ found. (d : ℕ) (name : TheList ℕ) → types_in found.sources d name ≡ types_of types.entry d name) }
+{
+    let mut sources = Vec::new(alloc);
+    for ((diagram, name), ty) in types {
+        let name = List::from_slice(alloc, name)?;
+        sources.push(SourceType { diagram, name, ty })?;
+    }
+    Ok(ViTypes {
+        sources: List::from_vec(sources),
+    })
+}
+
+/// Adds the breaks of a VI with this panel and these nodes, by the types of its wires.
+fn push_told<'p, 'm>(
+    alloc: Global,
+    breaks: &mut Vec<Break>,
+    panels: &Panels<'p>,
+    objects: &ObjectTypes<'p>,
+    types: &WireTypes<'m>,
+    number: u32,
+    panel: &'m [PanelItem],
+    entries: &'m [Entry<'m>],
+) -> Result<(), AllocError>
+    requires objects { objects_in objects.now ≡ panel_type panel.now }
+    requires typing { IsTypingBy (callees_in panels.now) panel.now (map seen entries.now) (types_of types.now) }
+    ensures { OnOk result (breaks.new.items ≡ breaks.old.items ++ breaks_with (callees_in panels.now) panel.now (types_of types.now) number (map seen entries.now)) }
+{
+    let Some(told) = judge(alloc, panels, objects, types, number, panel, entries)? else {
+        unreachable!();
+    };
+    breaks.extend_from_slice(told.as_slice())?;
+    Ok(())
+}
+
+/// The types of the wires of a VI with this panel and these nodes, whose breaks are added.
+fn infer_wires<'p, 'm>(
+    alloc: Global,
+    panels: &Panels<'p>,
+    objects: &ObjectTypes<'p>,
+    number: u32,
+    panel: &'m [PanelItem],
+    entries: &'m [Entry<'m>],
+    breaks: &mut Vec<Break>,
+) -> Result<ViTypes, AllocError>
+    requires objects { objects_in objects.now ≡ panel_type panel.now }
+    requires typable { IsTypable (callees_in panels.now) panel.now (map seen entries.now) }
+    ensures typing { IfOk result (λ found. IsTypingBy (callees_in panels.now) panel.now (map seen entries.now) (types_in found.sources)) }
+    ensures breaks { IfOk result (λ found. breaks.new.items ≡ breaks.old.items ++ breaks_with (callees_in panels.now) panel.now (types_in found.sources) number (map seen entries.now)) }
+{
+    let types = vi_types(alloc, panels, objects, panel, entries)?;
+    push_told(
+        alloc, breaks, panels, objects, &types, number, panel, entries,
+    )?;
+    let found = listed_types(alloc, types)?;
+    Ok(found)
+}
+
+/// The types of the wires of a VI, whose breaks are added.
+fn infer_vi<'p>(
+    alloc: Global,
+    panels: &Panels<'p>,
+    number: u32,
+    vi: &'p Vi,
+    breaks: &mut Vec<Break>,
+) -> Result<ViTypes, AllocError>
+    requires { IsTypable (callees_in panels.now) vi.now.panel (entries_of vi.now) }
+    ensures typing { IfOk result (λ found. IsTypingBy (callees_in panels.now) vi.now.panel (entries_of vi.now) (types_in found.sources)) }
+    ensures breaks { IfOk result (λ found. breaks.new.items ≡ breaks.old.items ++ breaks_with (callees_in panels.now) vi.now.panel (types_in found.sources) number (entries_of vi.now)) }
+{
+    let panel = vi.panel.as_slice();
+    let objects = object_types(alloc, panel)?;
+    let entries = table(alloc, vi)?;
+    let found = infer_wires(
+        alloc,
+        panels,
+        &objects,
+        number,
+        panel,
+        entries.as_slice(),
+        breaks,
+    )?;
+    Ok(found)
+}
+
+/// The types of the wires of each VI, and all breaks by them.
+#[derive(Drop)]
+struct Findings {
+    vis: Vec<ViTypes>,
+    breaks: Vec<Break>,
+}
+
+/// What is found of all VIs.
+fn infer_vis(alloc: Global, vis: &[Vi]) -> Result<Findings, AllocError>
+    requires { (k : ℕ) (vi : TheVi) → slice_get vis.now k ≡ Some vi → IsTypable (called_panel vis.now) vi.panel (entries_of vi) }
+    ensures { IfOk result (λ found. Inferred (called_panel vis.now) vis.now (length vis.now) found.vis.items found.breaks.items) }
+{
+    let known = panels(alloc, vis)?;
+    let mut found = Findings {
+        vis: Vec::new(alloc),
+        breaks: Vec::new(alloc),
+    };
+    let mut number = 0;
+    for vi in vis {
+        let types = infer_vi(alloc, &known, number, vi, &mut found.breaks)?;
+        found.vis.push(types)?;
+        number = next(number)?;
+    }
+    Ok(found)
+}
+
+/// The types of all wires, or all breaks, but for want of memory.
+fn answer(alloc: Global, h: &Hierarchy) -> Result<Result<Typed, InferRefused>, AllocError>
+    requires turns { (k : ℕ) (vi : TheVi) → slice_get h.now.vis k ≡ Some vi → (v : ℕ) → Leads (has_wire (ports_of h.now.vis vi)) v v → ⊥ }
+    requires typable { (k : ℕ) (vi : TheVi) → slice_get h.now.vis k ≡ Some vi → IsTypable (called_panel h.now.vis) vi.panel (entries_of vi) }
+    ensures { IfOk result (λ answer. MatchResult answer (IsTyped h.now) (Refuses h.now)) }
+{
+    let vis = h.vis.as_slice();
+    let found = infer_vis(alloc, vis)?;
+    let breaks = listed(alloc, found.breaks.as_slice())?;
+    if breaks.len() > 0 {
+        return Ok(Err(InferRefused::Broken(List::from_vec(breaks))));
+    }
+    Ok(Ok(Typed {
+        vis: List::from_vec(found.vis),
+    }))
+}
+
+/// The type of each named source of a hierarchy in which none of the rules 1 to 14 is broken: each
+/// source has the type that its line gives it. It is refused where rules on types are broken, with all
+/// their breaks, and for want of memory.
+pub fn infer(alloc: Global, h: &Hierarchy, _main: &Name) -> Result<Typed, InferRefused>
+    requires wired { IsWiring h.now _main.now [] }
+    ensures typed { IfOk result (IsTyped h.now) }
+    ensures refused { IfErr result (Refuses h.now) }
+{
+    typable_laws();
+    match answer(alloc, h) {
+        Ok(answer) => answer,
+        Err(failed) => Err(InferRefused::Memory(failed)),
+    }
+}

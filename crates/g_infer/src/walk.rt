@@ -1,0 +1,111 @@
+//! The types of a VI's wires, step by step.
+
+ghost use Rattle.std.specs.Prelude.{◌≡◌, ◌<◌, ◌∷◌, [], length, map, slice_get, Some, IfOk, OnOk};
+ghost use Rattle.g_table.specs.Seen.{seen};
+ghost use Rattle.g_typing.proofs.Agreed.{Typed as IsTypingBy};
+ghost use Rattle.g_typing.specs.Typing.{panel_type};
+ghost use Rattle.g_typable.specs.Typable.{IsTypable};
+ghost use Rattle.g_infer.specs.Given.{seen_given};
+ghost use Rattle.g_infer.specs.Gives.{form_gives};
+ghost use Rattle.g_infer.specs.Known.{types_of};
+ghost use Rattle.g_infer.specs.Panels.{callees_in, objects_in};
+ghost use Rattle.g_infer.specs.Steps.{seen_step};
+ghost use Rattle.g_infer.specs.Walking.{CanWalk, HasWalked, IsAfter, steps_of};
+
+use crate::feeds::step_graph;
+use crate::gives::push_gives;
+use crate::giving::Given;
+use crate::panels::{ObjectTypes, Panels};
+use crate::steps::{Step, all_steps};
+use crate::types::WireTypes;
+use g_diagram::PanelItem;
+use g_order::order;
+use g_table::Entry;
+use std::alloc::{AllocError, Global};
+use std::collections::BTreeMap;
+
+/// Keeps what is given to a name, where its type is known.
+fn keep<'m>(types: &mut WireTypes<'m>, given: Given<'m>) -> Result<(), AllocError>
+    ensures { OnOk result (IsAfter (types_of types.old) (types_of types.new) (seen_given given.entry ∷ [])) }
+{
+    let Given { diagram, name, ty } = given;
+    match ty {
+        None => Ok(()),
+        Some(ty) => {
+            types.insert((diagram, name), ty)?;
+            Ok(())
+        }
+    }
+}
+
+/// Keeps all that is given.
+fn keep_all<'m>(types: &mut WireTypes<'m>, givens: Vec<Given<'m>>) -> Result<(), AllocError>
+    ensures { OnOk result (IsAfter (types_of types.old) (types_of types.new) (map seen_given givens.entry.items)) }
+{
+    for given in givens {
+        keep(types, given)?;
+    }
+    Ok(())
+}
+
+/// Adds what a step gives by the types so far.
+fn take_step<'p, 'm>(
+    alloc: Global,
+    types: &mut WireTypes<'m>,
+    panels: &Panels<'p>,
+    objects: &ObjectTypes<'p>,
+    step: Step<'m>,
+) -> Result<(), AllocError>
+    ensures { OnOk result (IsAfter (types_of types.old) (types_of types.new) (form_gives (callees_in panels.now) (objects_in objects.now) (types_of types.old) (seen_step step.entry))) }
+{
+    let mut givens = Vec::new(alloc);
+    push_gives(alloc, &mut givens, panels, objects, types, step)?;
+    keep_all(types, givens)
+}
+
+/// The step of a number.
+fn step_at<'m>(steps: &[Step<'m>], node: usize) -> Step<'m>
+    requires { node < length steps.now }
+    ensures { slice_get steps.now node ≡ Some result }
+{
+    steps[node]
+}
+
+/// The types after all steps, in an order in which each reads only what those before it give.
+fn walk_steps<'p, 'm>(
+    alloc: Global,
+    panels: &Panels<'p>,
+    objects: &ObjectTypes<'p>,
+    steps: &[Step<'m>],
+    nodes: &[usize],
+) -> Result<WireTypes<'m>, AllocError>
+    requires { CanWalk (steps_of (callees_in panels.now) (objects_in objects.now) (map seen_step steps.now)) nodes.now }
+    ensures { IfOk result (λ types. HasWalked (steps_of (callees_in panels.now) (objects_in objects.now) (map seen_step steps.now)) nodes.now (length nodes.now) (types_of types)) }
+{
+    let mut types = BTreeMap::new(alloc);
+    for node in nodes {
+        let step = step_at(steps, *node);
+        take_step(alloc, &mut types, panels, objects, step)?;
+    }
+    Ok(types)
+}
+
+/// The types of a VI's wires: each source has what its line gives it, and what no line gives has none.
+pub fn vi_types<'p, 'm>(
+    alloc: Global,
+    panels: &Panels<'p>,
+    objects: &ObjectTypes<'p>,
+    panel: &'m [PanelItem],
+    entries: &'m [Entry<'m>],
+) -> Result<WireTypes<'m>, AllocError>
+    requires objects { objects_in objects.now ≡ panel_type panel.now }
+    requires typable { IsTypable (callees_in panels.now) panel.now (map seen entries.now) }
+    ensures { IfOk result (λ types. IsTypingBy (callees_in panels.now) panel.now (map seen entries.now) (types_of types)) }
+{
+    let steps = all_steps(alloc, panel, entries)?;
+    let graph = step_graph(alloc, steps.as_slice())?;
+    match order(alloc, graph.as_slice())? {
+        None => unreachable!(),
+        Some(nodes) => walk_steps(alloc, panels, objects, steps.as_slice(), nodes.as_slice()),
+    }
+}

@@ -1,0 +1,8 @@
+mod Counts
+mod Counting
+mod Places
+mod Spans
+mod Lined
+mod Once
+mod Unbroken
+mod Typables
