@@ -1,9 +1,9 @@
 -- A step fires as the definitions say of its node.
 use Rattle.std.proofs.Common.{◌≡◌, Bool, true, false, ◌&&◌, ◌||◌, ℕ, zero, suc, ◌+◌, ◌<◌, ◌≤◌, List, [], ◌∷◌, ◌++◌, map, Option, Some, None, arith, cond, refl, ap, sym, subst, ◌∙◌, eq-eqb}
 use Rattle.std.proofs.lemmas.Bool.{eqb-true}
+use Rattle.std.proofs.lemmas.List.{length-map}
 use Rattle.std.specs.Prelude.{not, is_some, slice_get, ◌==◌, length}
 use Rattle.std.specs.List.{list_all, list_any}
-use Rattle.g_values.specs.declared.value.Value.{Value}
 use Rattle.g_values.specs.Coerce.{coerced}
 use Rattle.g_diagram.specs.Lines.{Wire, Entry, Kind, Const, Apply, Shows, entry}
 use Rattle.g_operations.specs.Values.{outputs_of}
@@ -17,9 +17,9 @@ use Rattle.g_fire.specs.Maps.{firings_at}
 use Rattle.g_fire.specs.Wires.{source_of, inputs_of}
 use Rattle.g_fire.specs.Program.{FlatVi, Program}
 use Rattle.g_fire.specs.State.{first_frame, frame_node, is_done}
-use Rattle.g_fire.specs.Fire.{Reader, gives, guard, reader_in, value_from, has_value, value_on, or_false, outputs_from, const_effect, literal_value, shows_in, effect, is_ready, node_effect, node_at, on_node, on_vi, on_frame, effect_of, can_fire, fire, or_same}
+use Rattle.g_fire.specs.Fire.{Reader, gives, guard, reader_in, value_from, has_value, value_on, or_false, outputs_from, shows_in, effect, is_ready, node_effect, node_at, on_node, on_vi, on_frame, effect_of, can_fire, fire, or_same}
 use Rattle.g_fire.specs.Run.{IsAtRest, firing, after_from, go_on}
-use Rattle.g_fire.specs.Plan.{Finder, found_input, input_on, has_input, value_of_input, const_work, work_of, work_effect, step_of, step_effect, step_can, step_ready, step_fired, Ascends, IsPlan}
+use Rattle.g_fire.specs.Plan.{Finder, found_input, input_on, has_input, value_of_input, work_of, work_effect, step_of, step_effect, step_can, step_ready, step_fired, Ascends, IsPlan}
 use Rattle.g_fire.proofs.WireLemmas.{inputs-Apply}
 use Rattle.g_fire.proofs.StepLemmas.{some_is, refute}
 
@@ -67,15 +67,13 @@ module _ (s : FireState) (vi : FlatVi) (find : Finder) (finds : (name : List ℕ
   values_agree [] = refl
   values_agree (w ∷ ws) = ap (λ v. v ∷ map (value_on reader) ws) (value_agrees w) ∙ ap (λ vs. value_of_input s (input_on find w) ∷ vs) (values_agree ws)
 
-  const_agrees : (line : ℕ) (vs : List Value) (o : Option Value) → const_effect line o ≡ work_effect s line vs (const_work o)
-  const_agrees line vs None = refl
-  const_agrees line vs (Some v) = refl
-
   kind_agrees : (line diagram : ℕ) (kind : Kind) (fired : List Fired)
       → effect s first_frame line reader kind fired ≡ work_effect s line (map (value_of_input s) (map (input_on find) (inputs_of (entry line diagram kind)))) (work_of kind)
-  kind_agrees line d (Const t l out) fired = const_agrees line _ (literal_value t l)
+  kind_agrees line d (Const t l out) fired = refl
   kind_agrees line d (Apply op ins outs) fired =
-      ap (λ vs. Some (gives Once (outputs_from line (length ins + 1) (outputs_of op vs))))
+      let vs = map (value_on reader) ins in
+      ap (λ n. Some (gives Once (outputs_from line (n + 1) (outputs_of op vs)))) (sym (length-map ins (value_on reader)))
+      ∙ ap (λ xs. Some (gives Once (outputs_from line (length xs + 1) (outputs_of op xs))))
       (values_agree ins ∙ ap (λ ws. map (value_of_input s) (map (input_on find) ws)) (sym (inputs-Apply line d op ins outs)))
   kind_agrees line d (Shows name t w) fired = ap (λ v. shows_in 0 line (coerced v t) (slice_get s.objects 0)) (value_agrees w)
   kind_agrees line d _ fired = refl
@@ -101,7 +99,7 @@ module _ (s : FireState) (vi : FlatVi) (find : Finder) (finds : (name : List ℕ
 
 -- ---- the node of a line
 
-ascends_less : (es : List Entry) (n k : ℕ) (e : Entry) → Ascends n es → slice_get es k ≡ Some e → n ≤ e.line
+pub ascends_less : (es : List Entry) (n k : ℕ) (e : Entry) → Ascends n es → slice_get es k ≡ Some e → n ≤ e.line
 ascends_less [] n k e up at = cc
 ascends_less (x ∷ es) n zero e up at = subst (λ y. n ≤ y.line) (some_is x e at) up.0
 ascends_less (x ∷ es) n (suc k) e up at = omega (arith, up.0, ascends_less es (x.line + 1) k e up.2 at)
@@ -131,10 +129,15 @@ map_at f [] k y at = absurd (none_some at)
 map_at f (x ∷ xs) zero y at = (x, refl, some_is (f x) y at)
 map_at f (x ∷ xs) (suc k) y at = map_at f xs k y at
 
+pub mapped_at : {A B : Type 0} (f : A → B) (xs : List A) (k : ℕ) (x : A) → slice_get xs k ≡ Some x → slice_get (map f xs) k ≡ Some (f x)
+mapped_at f [] k x at = absurd (refute (ap is_some at))
+mapped_at f (y ∷ xs) zero x at = ap (λ z. Some (f z)) (some_is y x at)
+mapped_at f (y ∷ xs) (suc k) x at = mapped_at f xs k x at
+
 -- ---- runs
 
 module _ (p : Program) (steps : List Step) (plan : IsPlan p steps) (s : FireState) (frames : s.frames ≡ first_frame ∷ []) where
-  in_frame : (line : ℕ) (choice : Option ℕ) → effect_of p s (record { frame = 0; node = line; choice = choice }) ≡ on_node s 0 first_frame (reader_in s 0 first_frame plan.vi) choice (node_at 0 line plan.vi.entries)
+  pub in_frame : (line : ℕ) (choice : Option ℕ) → effect_of p s (record { frame = 0; node = line; choice = choice }) ≡ on_node s 0 first_frame (reader_in s 0 first_frame plan.vi) choice (node_at 0 line plan.vi.entries)
   in_frame line choice =
       let x : Firing = record { frame = 0; node = line; choice = choice } in
       ap (λ fs. on_frame p s x (slice_get fs 0)) frames ∙ ap (on_vi s x first_frame) plan.first

@@ -16,7 +16,7 @@ use Rattle.g_fire.specs.Fire.{Effect, can_fire, fire, effect_of, or_same}
 use Rattle.g_fire.specs.Run.{firing, after_from, go_on, node_firings, frame_firings, is_empty, is_at_rest, first_complete, end_of, IsReached}
 use Rattle.g_fire.specs.Plan.{step_of, step_can, Ascends, CanAt, IsPlan}
 use Rattle.g_fire.proofs.StepLemmas.{some_is, refute}
-use Rattle.g_fire.proofs.Bridge.{can_at}
+use Rattle.g_fire.proofs.Bridge.{can_at, mapped_at}
 use Rattle.g_fire.proofs.RunLemmas.{start_frames}
 
 -- no firing opens or closes a frame
@@ -66,15 +66,10 @@ all_map : {A B : Type 0} (f : A → B) (test : B → Bool) (xs : List A) → lis
 all_map f test [] = refl
 all_map f test (x ∷ xs) = ap (λ b. test (f x) && b) (all_map f test xs)
 
-diagrams : (n : ℕ) (es : List Entry) → Ascends n es → (k : ℕ) (e : Entry) → slice_get es k ≡ Some e → e.diagram ≡ 0
+pub diagrams : (n : ℕ) (es : List Entry) → Ascends n es → (k : ℕ) (e : Entry) → slice_get es k ≡ Some e → e.diagram ≡ 0
 diagrams n [] up k e at = absurd (refute (ap is_some at))
 diagrams n (x ∷ es) up zero e at = ap (λ y. y.diagram) (sym (some_is x e at)) ∙ up.1
 diagrams n (x ∷ es) up (suc k) e at = diagrams (x.line + 1) es up.2 k e at
-
-pub mapped_at : {A B : Type 0} (f : A → B) (xs : List A) (k : ℕ) (x : A) → slice_get xs k ≡ Some x → slice_get (map f xs) k ≡ Some (f x)
-mapped_at f [] k x at = absurd (refute (ap is_some at))
-mapped_at f (y ∷ xs) zero x at = ap (λ z. Some (f z)) (some_is y x at)
-mapped_at f (y ∷ xs) (suc k) x at = mapped_at f xs k x at
 
 module _ (p : Program) (steps : List Step) (plan : IsPlan p steps) (s : FireState) (frames : s.frames ≡ first_frame ∷ []) where
   nodes_are : entries_in (vi_in p 0) ≡ plan.vi.entries

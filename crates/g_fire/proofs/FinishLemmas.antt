@@ -1,12 +1,13 @@
 -- A run of a well-wired VI never stalls.
-use Rattle.std.proofs.Common.{◌≡◌, Bool, true, false, ◌&&◌, ◌||◌, ℕ, zero, suc, List, [], ◌∷◌, ◌++◌, map, Option, Some, None, cond, refl, ap, sym, subst, ◌∙◌, eq-eqb, inl, inr, ◌⊎◌}
+use Rattle.std.proofs.Common.{◌≡◌, Bool, true, false, ◌&&◌, ◌||◌, ℕ, zero, suc, List, [], ◌∷◌, ◌++◌, ◌+◌, map, length, Option, Some, None, cond, refl, ap, sym, subst, ◌∙◌, eq-eqb, inl, inr, ◌⊎◌}
 use Rattle.std.proofs.lemmas.Slice.Eq.{bytes_eq-Decides}
+use Rattle.std.proofs.lemmas.List.{length-map}
 use Rattle.std.specs.Prelude.{is_some, not, slice_get, ◌==◌}
 use Rattle.std.specs.List.{list_all, list_any}
 use Rattle.g_values.specs.declared.value.Value.{Value}
 use Rattle.g_diagram.specs.declared.panel.PanelItem.{PanelItem}
 use Rattle.g_diagram.specs.Leads.{Walk, Leads}
-use Rattle.g_diagram.specs.Lines.{Wire, entry, entries_of}
+use Rattle.g_diagram.specs.Lines.{Wire, Apply, entry, entries_of}
 use Rattle.g_diagram.specs.Operands.{Freedom, control_lines, entries_lines}
 use Rattle.g_diagram.specs.Ports.{Port, ports_in, freedom, sources, consumers, same_wire, are_joined, is_node, feeds, has_wire}
 use Rattle.g_fire.specs.declared.maps.WireSource.{WireSource}
@@ -20,19 +21,26 @@ use Rattle.g_fire.specs.declared.state.FireState.{FireState}
 use Rattle.g_fire.specs.Laws.{has_source, IsWellWired, Finishes}
 use Rattle.g_fire.specs.Maps.{value_at}
 use Rattle.g_fire.specs.Names.{named}
-use Rattle.g_fire.specs.Plan.{found_input, has_input, work_of, work_effect, step_of, step_can, IsPlan}
-use Rattle.g_fire.specs.Program.{flat_vi, Program, program}
+use Rattle.g_fire.specs.Plan.{Kinds, at_operand, GivesWork, input_on, found_input, has_input, work_of, work_effect, step_of, step_can, IsPlan}
+use Rattle.g_fire.specs.Program.{Program, program}
 use Rattle.g_fire.specs.Run.{firing, end_of, IsAtRest, IsReached}
 use Rattle.g_fire.specs.State.{terminal, is_done, control_values, start, start_of}
+use Rattle.g_literals.specs.Values.{literal_value}
 use Rattle.g_fire.specs.Fire.{Effect, guard, shows_in}
-use Rattle.g_fire.specs.Wires.{source_of}
+use Rattle.g_fire.specs.Wires.{source_of, inputs_of}
+use Rattle.g_row_laws.specs.Laws.{AreOfTypes}
+use Rattle.g_typing.specs.Typing.{control_types}
+use Rattle.g_values.specs.Value.{type_of}
 use Rattle.g_fire.proofs.StepLemmas.{some_is, refute, and_left, and_right, both}
-use Rattle.g_fire.proofs.Bridge.{can_at, map_at}
-use Rattle.g_fire.proofs.PlanLemmas.{is_plan, table_of}
-use Rattle.g_fire.proofs.EndLemmas.{ended, end_is, mapped_at}
+use Rattle.g_fire.proofs.Bridge.{can_at, map_at, mapped_at}
+use Rattle.g_fire.proofs.PlanLemmas.{table_of}
+use Rattle.g_fire.proofs.KindLemmas.{is_plan, plan_vi, plan_names}
+use Rattle.g_fire.proofs.RunLemmas.{start_known}
+use Rattle.g_fire.proofs.WireLemmas.{inputs-Apply}
+use Rattle.g_fire.proofs.EndLemmas.{ended, end_is}
 use Rattle.g_fire.proofs.Places.{any_stands, stands_any, all_at, all_of, none_of, any_filter_is, all_filter_is, Before, none_chosen}
-use Rattle.g_fire.proofs.ShapeLemmas.{Shape, constant, single, sum, shown, kind_of, taken, given_operand, Vertex, entry_of, vertices, Takes, takes, Gives, node_gives}
-use Rattle.g_fire.proofs.GivenLemmas.{some_of, operand_of, Keeps, run_keeps, IsSet, counts, control_source}
+use Rattle.g_fire.proofs.ShapeLemmas.{Shape, constant, applied, shown, kind_of, taken, GivesShape, Vertex, entry_of, vertices, Takes, takes, Gives, node_gives}
+use Rattle.g_fire.proofs.GivenLemmas.{some_of, control_count, Keeps, run_keeps, IsSet, counts, control_source}
 
 -- ---- names and their sources
 
@@ -152,15 +160,29 @@ record Waits (s : FireState) (find : List ℕ → Option WireSource) (shape : Sh
   pub at : slice_get (taken shape) place ≡ Some name
   pub missing : has_input s (found_input (find name)) ≡ false
 
-one_missing : (done a : Bool) → done ≡ false → not done && (a && true) ≡ false → a ≡ false
-one_missing true a h k = absurd (refute (sym h))
-one_missing false true h k = absurd (refute (sym k))
-one_missing false false h k = refl
+not_all : (done rest : Bool) → done ≡ false → not done && rest ≡ false → rest ≡ false
+not_all true rest h k = absurd (refute (sym h))
+not_all false rest h k = k
 
-two_missing : (done a b : Bool) → done ≡ false → not done && (a && (b && true)) ≡ false → (a ≡ false) ⊎ (b ≡ false)
-two_missing true a b h k = absurd (refute (sym h))
-two_missing false true b h k = inr (one_missing false b refl k)
-two_missing false false b h k = inl refl
+one_missing : (a : Bool) → a && true ≡ false → a ≡ false
+one_missing true k = absurd (refute (sym k))
+one_missing false k = refl
+
+-- the first name of some without a value
+record Lacks (s : FireState) (find : List ℕ → Option WireSource) (names : List (List ℕ)) : Type 0 where
+  pub place : ℕ
+  pub name : List ℕ
+  pub at : slice_get names place ≡ Some name
+  pub missing : has_input s (found_input (find name)) ≡ false
+
+lacks : (s : FireState) (find : List ℕ → Option WireSource) (names : List (List ℕ)) → list_all (has_input s) (map (input_on find) (map Some names)) ≡ false → Lacks s find names
+lacks s find [] h = absurd (refute (sym h))
+lacks s find (a ∷ names) h = by (has_input s (found_input (find a))) refl h (lacks s find names)
+  where
+    by : (b : Bool) → has_input s (found_input (find a)) ≡ b → b && list_all (has_input s) (map (input_on find) (map Some names)) ≡ false
+        → (list_all (has_input s) (map (input_on find) (map Some names)) ≡ false → Lacks s find names) → Lacks s find (a ∷ names)
+    by true is g rest = let r = rest g in record { place = suc r.place; name = r.name; at = r.at; missing = r.missing }
+    by false is g rest = record { place = 0; name = a; at = refl; missing = is }
 
 guard_is : (b : Bool) (e : Option Effect) → is_some e ≡ true → is_some (guard b e) ≡ b
 guard_is true e h = h
@@ -172,36 +194,29 @@ panel_shows line v (Some (Panel cells)) h = refl
 
 module _ (s : FireState) (find : List ℕ → Option WireSource) (panel : is_some (slice_get s.objects 0) ≡ true) where
   waits : (l : ℕ) (shape : Shape) → is_done s 0 l ≡ false → step_can s (step_of find (entry l 0 (kind_of shape))) ≡ false → Waits s find shape
-  waits l (constant t c x is out) undone can =
-      absurd (refute (sym can
-      ∙ ap (λ w. is_some (guard (not (is_done s 0 l) && true) (work_effect s l [] w))) is
-      ∙ ap (λ d. is_some (guard (not d && true) (work_effect s l [] (work.Give x)))) undone))
-  waits l (single op is a out) undone can =
-      record {
-        place = 0;
-        name = a;
-        at = refl;
-        missing = one_missing (is_done s 0 l) (has_input s (found_input (find a))) undone (sym (guard_is _ _ refl) ∙ can);
-      }
-  waits l (sum op is a b out) undone can =
-      by (two_missing (is_done s 0 l) (has_input s (found_input (find a))) (has_input s (found_input (find b))) undone (sym (guard_is _ _ refl) ∙ can))
-    where
-      by : (has_input s (found_input (find a)) ≡ false) ⊎ (has_input s (found_input (find b)) ≡ false) → Waits s find (sum op is a b out)
-      by (inl h) = record { place = 0; name = a; at = refl; missing = h }
-      by (inr h) = record { place = 1; name = b; at = refl; missing = h }
+  waits l (constant t c out) undone can = absurd (refute (sym can ∙ ap (λ d. is_some (guard (not d && true) (work_effect s l [] (work.Give (literal_value c t))))) undone))
+  waits l (applied op ins outs) undone can =
+      let has = list_all (has_input s) (map (input_on find) (inputs_of (entry l 0 (Apply op (map Some ins) outs)))) in
+      let none = not_all (is_done s 0 l) has undone (sym (guard_is _ _ refl) ∙ can) in
+      let r = lacks s find ins (ap (λ ws. list_all (has_input s) (map (input_on find) ws)) (sym (inputs-Apply l 0 op (map Some ins) outs)) ∙ none) in
+      record { place = r.place; name = r.name; at = r.at; missing = r.missing }
   waits l (shown title t w) undone can =
       record {
         place = 0;
         name = w;
         at = refl;
-        missing = one_missing (is_done s 0 l) (has_input s (found_input (find w))) undone (sym (guard_is _ _ (panel_shows l _ (slice_get s.objects 0) panel)) ∙ can);
+        missing = one_missing (has_input s (found_input (find w))) (not_all (is_done s 0 l) (has_input s (found_input (find w)) && true) undone (sym (guard_is _ _ (panel_shows l _ (slice_get s.objects 0) panel)) ∙ can));
       }
 
-gives_operand : (shape : Shape) (j : ℕ) → given_operand shape ≡ Some j → operand_of (work_of (kind_of shape)) ≡ Some j
-gives_operand (constant t l x is out) j h = ap operand_of is ∙ h
-gives_operand (single op is a out) j h = h
-gives_operand (sum op is a b out) j h = h
-gives_operand (shown name t w) j h = h
+-- a node gives a value at each operand at which it has a source
+gives_operand : (kinds : Kinds) (find : List ℕ → Option WireSource) (l : ℕ) (shape : Shape) (j : ℕ) → GivesShape shape j → is_some (kinds (at_operand l j)) ≡ true
+    → GivesWork kinds l (length (step_of find (entry l 0 (kind_of shape))).inputs) (work_of (kind_of shape)) j
+gives_operand kinds find l (constant t c out) j h known = h
+gives_operand kinds find l (applied op ins outs) j h known = (h.0, h.1 ∙ ap (λ n. n + 1 + h.0) (sym long), known)
+  where
+    long : length (map (input_on find) (inputs_of (entry l 0 (Apply op (map Some ins) outs)))) ≡ length ins
+    long = length-map (inputs_of (entry l 0 (Apply op (map Some ins) outs))) (input_on find) ∙ ap length (inputs-Apply l 0 op (map Some ins) outs) ∙ length-map ins (λ (a : List ℕ). Some a)
+gives_operand kinds find l (shown name t w) j h known = absurd h
 
 -- ---- a state at rest
 
@@ -210,8 +225,9 @@ ports_with items free vs = ports_in (control_lines 1 items ++ entries_lines free
 
 module _ (p : Program) (steps : List Step) (plan : IsPlan p steps) (items : List PanelItem) (free : Freedom) (vs : List Vertex)
     (entries : plan.vi.entries ≡ map entry_of vs) (ports : plan.vi.ports ≡ ports_with items free vs) (well : IsWellWired (ports_with items free vs))
-    (s : FireState) (first : List (Terminal × Value)) (keeps : Keeps steps first s) (rest : IsAtRest p s)
-    (set : (port : Port) → IsSet 1 items port → is_some (value_at (terminal 0 port.line port.operand) first) ≡ true) where
+    (s : FireState) (first : List (Terminal × Value)) (keeps : Keeps plan.kinds steps first s) (rest : IsAtRest p s)
+    (set : (port : Port) → IsSet 1 items port → is_some (value_at (terminal 0 port.line port.operand) first) ≡ true)
+    (named_kinds : (name : List ℕ) (w : WireSource) → plan.find name ≡ Some w → is_some (plan.kinds w) ≡ true) where
   abbrev undone : Vertex → Bool
   undone v = not (is_done s 0 v.line)
 
@@ -224,9 +240,9 @@ module _ (p : Program) (steps : List Step) (plan : IsPlan p steps) (items : List
       ∙ mapped_at (step_of plan.find) (map entry_of vs) k (entry_of v) (mapped_at entry_of vs k v at)
 
   -- a source whose wire has no value belongs to a node that isn't done
-  waits_for : (v : Vertex) (name : List ℕ) (src : WireSource) → Takes (ports_with items free vs) v.line name → (one : Sourced (ports_with items free vs) name src)
+  waits_for : (v : Vertex) (name : List ℕ) (src : WireSource) → plan.find name ≡ Some src → Takes (ports_with items free vs) v.line name → (one : Sourced (ports_with items free vs) name src)
       → is_some (value_at (terminal 0 src.line src.operand) s.values) ≡ false → Before undone Precedes vs v
-  waits_for v name src t one missing = by (control_source 1 items (entries_lines free (map entry_of vs)) one.place one.port one.at)
+  waits_for v name src found t one missing = by (control_source 1 items (entries_lines free (map entry_of vs)) one.place one.port one.at)
     where
       known : is_some (value_at (terminal 0 one.port.line one.port.operand) s.values) ≡ true → ⊥
       known h =
@@ -235,10 +251,16 @@ module _ (p : Program) (steps : List Step) (plan : IsPlan p steps) (items : List
           ∙ ap (λ o. is_some (value_at (terminal 0 one.port.line o) s.values)) (sym one.operand)
           ∙ h)
 
+      kind_at : (g : Gives vs one.port) → is_some (plan.kinds (at_operand g.vertex.line one.port.operand)) ≡ true
+      kind_at g =
+          ap (λ l. is_some (plan.kinds (at_operand l one.port.operand))) (sym g.line ∙ one.line)
+          ∙ ap (λ o. is_some (plan.kinds (at_operand src.line o))) one.operand
+          ∙ named_kinds name src found
+
       undone_one : (g : Gives vs one.port) (b : Bool) → is_done s 0 g.vertex.line ≡ b → not b ≡ true
       undone_one g true done =
           absurd (known (ap (λ l. is_some (value_at (terminal 0 l one.port.operand) s.values)) g.line
-          ∙ keeps.given g.place (step_of plan.find (entry_of g.vertex)) (step_here g.place g.vertex g.at) one.port.operand (gives_operand g.vertex.shape one.port.operand g.operand) done))
+          ∙ keeps.given g.place (step_of plan.find (entry_of g.vertex)) (step_here g.place g.vertex g.at) one.port.operand (gives_operand plan.kinds plan.find g.vertex.line g.vertex.shape one.port.operand g.operand (kind_at g)) done))
       undone_one g false done = refl
 
       by : IsSet 1 items one.port ⊎ ((j : ℕ) × (slice_get (ports_in (entries_lines free (map entry_of vs))) j ≡ Some one.port)) → Before undone Precedes vs v
@@ -260,7 +282,7 @@ module _ (p : Program) (steps : List Step) (plan : IsPlan p steps) (items : List
       let t = takes free items vs k v at w.place w.name w.at in
       let src = some_of (source_of (ports_with items free vs) 0 w.name) (has_one (ports_with items free vs) well v.line w.name t) in
       let found : plan.find w.name ≡ Some src.0 = plan.finds w.name ∙ ap (λ qs. source_of qs 0 w.name) ports ∙ src.1 in
-      waits_for v w.name src.0 t (sourced_at (ports_with items free vs) w.name src.0 src.1) (sym (ap (λ o. has_input s (found_input o)) found) ∙ w.missing)
+      waits_for v w.name src.0 found t (sourced_at (ports_with items free vs) w.name src.0 src.1) (sym (ap (λ o. has_input s (found_input o)) found) ∙ w.missing)
 
   done_at : (k : ℕ) (v : Vertex) → slice_get vs k ≡ Some v → undone v ≡ false
   done_at =
@@ -279,19 +301,24 @@ module _ (p : Program) (steps : List Step) (plan : IsPlan p steps) (items : List
       ∙ ap (ended false) (all_of (λ st. is_done s 0 st.line) steps step_done)
 
 pub finishes : Finishes
-finishes h controls trace s is well are after_it rest =
-    let vi = is.vi in
+finishes h main flat whole well controls trace s are after_it rest =
+    let vi = flat.vi in
+    let p = program h main in
     let steps = map (step_of (named (table_of vi))) (entries_of vi) in
-    let plan = is_plan h vi is.one is.form (table_of vi) refl steps refl in
-    let vs = vertices vi is.form.nodes in
-    let vi_is : plan.vi ≡ flat_vi h.vis vi = some_is plan.vi (flat_vi h.vis vi) (sym plan.first ∙ ap (λ vis. slice_get (map (flat_vi h.vis) vis) 0) is.one) in
-    is_finished (program h) steps plan vi.panel (freedom h.vis) vs.0
+    let plan = is_plan h main flat in
+    let vi_is = plan_vi h main flat in
+    let vs = vertices vi flat.nodes in
+    is_finished p steps plan vi.panel (freedom h.vis) vs.0
     (ap (λ x. x.entries) vi_is ∙ vs.1)
     (ap (λ x. x.ports) vi_is ∙ ap (λ es. ports_in (control_lines 1 vi.panel ++ entries_lines (freedom h.vis) es)) vs.1)
-    (subst (λ es. IsWellWired (ports_in (control_lines 1 vi.panel ++ entries_lines (freedom h.vis) es))) vs.1 (well vi is.one))
-    s (start (program h) controls).values (run_keeps (program h) steps plan controls trace s after_it) rest
+    (subst (λ es. IsWellWired (ports_in (control_lines 1 vi.panel ++ entries_lines (freedom h.vis) es))) vs.1 well)
+    s (start p controls).values (run_keeps p steps plan controls (start_known h main steps plan controls are) trace s after_it) rest
     (λ port set.
     ap (λ o. is_some (value_at (terminal 0 port.line port.operand) (start_of o controls).values)) plan.first
     ∙ ap (λ x. is_some (value_at (terminal 0 port.line port.operand) (control_values 1 x.panel controls []))) vi_is
-    ∙ set controls [] (are.each vi is.one ∙ sym (counts vi.panel)))
+    ∙ set controls [] (long controls vi.panel (are vi flat.stands)))
+    (plan_names h main flat whole)
     (record { controls = controls; trace = trace; after_it = after_it })
+  where
+    long : (vs : List Value) (items : List PanelItem) → AreOfTypes (control_types items) vs → length vs ≡ control_count items
+    long vs items are = sym (length-map vs type_of) ∙ ap length are.of_types ∙ counts items

@@ -1,13 +1,14 @@
 pub mod MapLemmas
 pub mod NameLemmas
 pub mod WireLemmas
-pub mod SumLemmas
 pub mod StepLemmas
 pub mod Bridge
 pub mod PlanLemmas
+pub mod TypedLemmas
 pub mod RunLemmas
 pub mod EndLemmas
 pub mod LawLemmas
+pub mod KindLemmas
 pub mod Places
 pub mod ShapeLemmas
 pub mod GivenLemmas

@@ -1,18 +1,12 @@
 -- The steps are the nodes of the VI that runs, and names lead where the definitions say.
-use Rattle.std.proofs.Common.{◌≡◌, Bool, true, false, ◌&&◌, ℕ, suc, ◌+◌, ◌≤◌, List, [], ◌∷◌, ◌++◌, map, length, Option, Some, None, arith, cond, refl, ap, sym, subst, ◌∙◌}
-use Rattle.std.specs.Prelude.{is_some, slice_get, bytes_eq, Ok, Err, IfOk}
+use Rattle.std.proofs.Common.{◌≡◌, Bool, true, false, ℕ, ◌+◌, ◌≤◌, List, [], ◌∷◌, ◌++◌, map, length, Option, Some, None, arith, cond, refl, ap, sym, subst, ◌∙◌}
+use Rattle.std.specs.Prelude.{is_some, bytes_eq, Ok, Err, IfOk}
 use Rattle.std.specs.declared.result.Result.{Result}
 use Rattle.std.specs.List.{list_all}
 use Rattle.std.proofs.lemmas.Slice.Eq.{bytes_eq-Decides}
-use Rattle.g_types.specs.declared.ty.Ty.{Ty, out-Ty}
-use Rattle.g_types.specs.declared.ty.Ty.TheOpen.{Ty-F}
-use Rattle.g_values.specs.declared.primitive.Primitive.{Primitive}
-use Rattle.g_values.specs.Number.{num_of}
-use Rattle.g_diagram.specs.declared.hierarchy.Hierarchy.{Hierarchy}
+use Rattle.g_types.specs.declared.ty.Ty.{Ty}
 use Rattle.g_diagram.specs.declared.hierarchy.Vi.{Vi}
 use Rattle.g_diagram.specs.declared.panel.Lit.{Lit}
-use Rattle.g_diagram.specs.declared.panel.Lit.TheViews.{out-Lit}
-use Rattle.g_diagram.specs.declared.panel.Lit.TheOpen.{Lit-F}
 use Rattle.g_diagram.specs.declared.panel.PanelItem.{PanelItem}
 use Rattle.g_diagram.specs.declared.panel.PanelItem.TheVariants.{Control, Indicator}
 use Rattle.g_diagram.specs.declared.node.Branch.{Branch}
@@ -22,20 +16,16 @@ use Rattle.g_diagram.specs.declared.node.Node.TheViews.{out-Node, roll-Node, rol
 use Rattle.g_diagram.specs.declared.node.Node.TheOpen.{Node-F}
 use Rattle.g_diagram.specs.declared.node.Node.TheFolds.{fold-roll-Node}
 use Rattle.g_diagram.specs.declared.node.SequenceFrame.{SequenceFrame}
-use Rattle.g_scalars.specs.Names.{are_named}
-use Rattle.g_scalars.specs.Scalars.{is_operation, is_scalar_node_at, is_scalar_node, IsNumberVi}
+use Rattle.g_fire.specs.Flat.{is_flat_node_at, is_flat_node}
 use Rattle.g_diagram.specs.Lines.{Wire, Lines, BranchLines, FrameLines, Entry, Kind, Const, Apply, entry, lines_of, one_line, node_step, branch_step, diagram_step, frame_step, panel_entries, nodes_entries, entries_of}
 use Rattle.g_diagram.specs.Operands.{Outside, Operand, Freedom, source, consumer, in_and_out, plain_line, control_lines, entries_lines}
-use Rattle.g_diagram.specs.Ports.{Port, ports_from, ports_in, freedom}
+use Rattle.g_diagram.specs.Ports.{Port, ports_from, ports_in}
 use Rattle.g_fire.specs.declared.maps.WireSource.{WireSource}
-use Rattle.g_fire.specs.declared.plan.Step.{Step}
 use Rattle.g_fire.specs.Names.{Table, named, add_name, add_all, given_wires, given_panel, given_at, given_nodes}
-use Rattle.g_fire.specs.Program.{flat_vi, program}
 use Rattle.g_fire.specs.Wires.{source_of, inputs_of}
-use Rattle.g_fire.specs.Plan.{Finder, input_on, found_input, is_wired, const_work, plain_work, step_of, step_plain, Ascends, IsPlan}
+use Rattle.g_fire.specs.Plan.{Finder, input_on, found_input, is_wired, step_of, step_plain, Ascends}
 use Rattle.g_fire.proofs.WireLemmas.{inputs-Apply}
-use Rattle.g_fire.specs.Fire.{literal_at}
-use Rattle.g_fire.proofs.StepLemmas.{and_left, and_right, both, refute, num_scalar, bool_scalar}
+use Rattle.g_fire.proofs.StepLemmas.{and_left, and_right, both, refute}
 
 abbrev or_else : Option WireSource → Option WireSource → Option WireSource
 or_else (Some s) o = Some s
@@ -117,11 +107,6 @@ module _ (q : List ℕ) where
 
 -- ---- a node of the form is one line
 
-const_plain : (t : Ty-F Ty) (l : Lit-F Lit) → plain_work 0 (const_work (literal_at t l)) ≡ true
-const_plain (Ty-F.Num r) (Lit-F.Number n) = num_scalar (num_of r n)
-const_plain Ty-F.Bool (Lit-F.Truth b) = bool_scalar b
-const_plain _ _ = refl
-
 wired_found : (o : Option WireSource) → is_wired (found_input o) ≡ true
 wired_found None = refl
 wired_found (Some s) = refl
@@ -131,41 +116,41 @@ all_wired find [] h = refl
 all_wired find (None ∷ ws) h = absurd (refute h)
 all_wired find (Some n ∷ ws) h = both (is_wired (input_on find (Some n))) (list_all is_wired (map (input_on find) ws)) (wired_found (find n)) (all_wired find ws h)
 
-same_length : {A B : Type 0} (f : A → B) (xs : List A) → length (map f xs) ≡ length xs
-same_length f [] = refl
-same_length f (x ∷ xs) = ap (λ n. suc n) (same_length f xs)
+-- the sources on the line of a node
+abbrev pub given_kind : (line : ℕ) → Kind → Table
+given_kind l (Const t literal out) = given_wires l 1 (out ∷ [])
+given_kind l (Apply op ins outs) = given_wires l (length ins + 1) outs
+given_kind l _ = []
 
-record IsLine (find : Finder) (n : Node-F Node Branch Diagram SequenceFrame) : Type 0 where
+pub record IsLine (find : Finder) (n : Node-F Node Branch Diagram SequenceFrame) : Type 0 where
   pub kind : Kind
   pub line : lines_of (roll-Node n) ≡ one_line kind
   pub plain : (l : ℕ) → step_plain (step_of find (entry l 0 kind)) ≡ true
+  pub given : (l : ℕ) → given_at l n ≡ given_kind l kind
   pub sources : (q : List ℕ) (l : ℕ) (free : Freedom) (es : List Entry)
       → source_of (ports_in (entries_lines free (entry l 0 kind ∷ es))) 0 q ≡ or_else (named (given_at l n) q) (source_of (ports_in (entries_lines free es)) 0 q)
 
-plain_apply : (op : Primitive) (find : Finder) (ins ws : List Wire) → ws ≡ ins → is_operation op (length ins) ≡ true → list_all is_some ins ≡ true
-    → is_operation op (length (map (input_on find) ws)) && list_all is_wired (map (input_on find) ws) ≡ true
-plain_apply op find ins ws e takes some =
-    subst (λ xs. is_operation op (length (map (input_on find) xs)) && list_all is_wired (map (input_on find) xs) ≡ true) (sym e)
-    (both _ _ (ap (is_operation op) (same_length (input_on find) ins) ∙ takes) (all_wired find ins some))
+plain_apply : (find : Finder) (ins ws : List Wire) → ws ≡ ins → list_all is_some ins ≡ true → list_all is_wired (map (input_on find) ws) ≡ true
+plain_apply find ins ws e some = ap (λ xs. list_all is_wired (map (input_on find) xs)) e ∙ all_wired find ins some
 
 const_sources : (q : List ℕ) (l : ℕ) (t : Ty) (literal : Lit) (out : Wire) (free : Freedom) (es : List Entry)
     → source_of (ports_in (entries_lines free (entry l 0 (Const t literal out) ∷ es))) 0 q ≡ or_else (named (given_wires l 1 (out ∷ [])) q) (source_of (ports_in (entries_lines free es)) 0 q)
 const_sources q l t literal None free es = refl
 const_sources q l t literal (Some n) free es = one_first (bytes_eq q n) (record { line = l; operand = 1 }) None (source_of (ports_in (entries_lines free es)) 0 q) _ refl
 
-is_line : (find : Finder) (n : Node-F Node Branch Diagram SequenceFrame) → is_scalar_node_at n ≡ true → IsLine find n
+pub is_line : (find : Finder) (n : Node-F Node Branch Diagram SequenceFrame) → is_flat_node_at n ≡ true → IsLine find n
 is_line find (Node-F.Const t literal out) h = record {
   kind = Const t literal out;
   line = fold-roll-Node Lines BranchLines Lines FrameLines node_step branch_step diagram_step frame_step (Node-F.Const t literal out);
-  plain = λ l. both _ _ (const_plain (out-Ty t) (out-Lit literal)) refl;
+  plain = λ l. refl;
+  given = λ l. refl;
   sources = λ q l free es. const_sources q l t literal out free es;
 }
 is_line find (Node-F.Apply op ins outs) h = record {
   kind = Apply op ins outs;
   line = fold-roll-Node Lines BranchLines Lines FrameLines node_step branch_step diagram_step frame_step (Node-F.Apply op ins outs);
-  plain = λ l. plain_apply op find ins (inputs_of (entry l 0 (Apply op ins outs))) (inputs-Apply l 0 op ins outs)
-      (and_left (is_operation op (length ins)) (list_all is_some ins && are_named 1 outs) h)
-      (and_left (list_all is_some ins) (are_named 1 outs) (and_right (is_operation op (length ins)) (list_all is_some ins && are_named 1 outs) h));
+  plain = λ l. plain_apply find ins (inputs_of (entry l 0 (Apply op ins outs))) (inputs-Apply l 0 op ins outs) h;
+  given = λ l. refl;
   sources = λ q l free es.
       let rest = ports_in (entries_lines free es) in
       taken_first q l (Apply op ins outs) (in_and_out ins outs) rest 1 ins (map (source Outside) outs)
@@ -177,47 +162,47 @@ is_line find _ h = absurd (refute h)
 -- ---- all nodes
 
 module _ (find : Finder) where
-  panel_plain : (l : ℕ) (items : List PanelItem) (es : List Entry) → list_all step_plain (map (step_of find) es) ≡ true → list_all step_plain (map (step_of find) (panel_entries items l ++ es)) ≡ true
+  pub panel_plain : (l : ℕ) (items : List PanelItem) (es : List Entry) → list_all step_plain (map (step_of find) es) ≡ true → list_all step_plain (map (step_of find) (panel_entries items l ++ es)) ≡ true
   panel_plain l [] es h = h
   panel_plain l (Control name t required given out ∷ items) es h = panel_plain (l + 1) items es h
   panel_plain l (Indicator name t None ∷ items) es h = panel_plain (l + 1) items es h
   panel_plain l (Indicator name t (Some w) ∷ items) es h = both _ _ (both _ _ (wired_found (find w)) refl) (panel_plain (l + 1) items es h)
 
   -- the first of some nodes, and the others
-  first_node : (n : Node) (ns : List Node) (l : ℕ) → is_scalar_node n ≡ true
+  pub first_node : (n : Node) (ns : List Node) (l : ℕ) → is_flat_node n ≡ true
       → (line : IsLine find (out-Node n)) × (nodes_entries (n ∷ ns) l 0 ≡ entry l 0 line.kind ∷ nodes_entries ns (l + 1) 0)
   first_node n ns l h =
       let line = is_line find (out-Node n) h in
       (line, ap (λ ls. ls.entries l 0 ++ nodes_entries ns (l + ls.count) 0) (ap lines_of (sym (roll-out-Node n)) ∙ line.line))
 
-  nodes_plain : (l : ℕ) (ns : List Node) → list_all is_scalar_node ns ≡ true → list_all step_plain (map (step_of find) (nodes_entries ns l 0)) ≡ true
+  pub nodes_plain : (l : ℕ) (ns : List Node) → list_all is_flat_node ns ≡ true → list_all step_plain (map (step_of find) (nodes_entries ns l 0)) ≡ true
   nodes_plain l [] h = refl
   nodes_plain l (n ∷ ns) h =
-      let first = first_node n ns l (and_left (is_scalar_node n) (list_all is_scalar_node ns) h) in
+      let first = first_node n ns l (and_left (is_flat_node n) (list_all is_flat_node ns) h) in
       subst (λ es. list_all step_plain (map (step_of find) es) ≡ true) (sym first.1)
-      (both _ _ (first.0.plain l) (nodes_plain (l + 1) ns (and_right (is_scalar_node n) (list_all is_scalar_node ns) h)))
+      (both _ _ (first.0.plain l) (nodes_plain (l + 1) ns (and_right (is_flat_node n) (list_all is_flat_node ns) h)))
 
-  nodes_sources : (q : List ℕ) (l : ℕ) (ns : List Node) (free : Freedom) → list_all is_scalar_node ns ≡ true
+  nodes_sources : (q : List ℕ) (l : ℕ) (ns : List Node) (free : Freedom) → list_all is_flat_node ns ≡ true
       → source_of (ports_in (entries_lines free (nodes_entries ns l 0))) 0 q ≡ named (given_nodes l ns) q
   nodes_sources q l [] free h = refl
   nodes_sources q l (n ∷ ns) free h =
-      let first = first_node n ns l (and_left (is_scalar_node n) (list_all is_scalar_node ns) h) in
+      let first = first_node n ns l (and_left (is_flat_node n) (list_all is_flat_node ns) h) in
       ap (λ es. source_of (ports_in (entries_lines free es)) 0 q) first.1
       ∙ first.0.sources q l free (nodes_entries ns (l + 1) 0)
-      ∙ ap (or_else (named (given_at l (out-Node n)) q)) (nodes_sources q (l + 1) ns free (and_right (is_scalar_node n) (list_all is_scalar_node ns) h))
+      ∙ ap (or_else (named (given_at l (out-Node n)) q)) (nodes_sources q (l + 1) ns free (and_right (is_flat_node n) (list_all is_flat_node ns) h))
       ∙ sym (named_append (given_at l (out-Node n)) (given_nodes (l + 1) ns) q)
 
-  ascends_from : (n m : ℕ) (es : List Entry) → n ≤ m → Ascends m es → Ascends n es
+  pub ascends_from : (n m : ℕ) (es : List Entry) → n ≤ m → Ascends m es → Ascends n es
   ascends_from n m [] less up = tt
   ascends_from n m (e ∷ es) less up = (omega (arith, less, up.0), up.1, up.2)
 
-  nodes_ascend : (l : ℕ) (ns : List Node) → list_all is_scalar_node ns ≡ true → Ascends l (nodes_entries ns l 0)
+  pub nodes_ascend : (l : ℕ) (ns : List Node) → list_all is_flat_node ns ≡ true → Ascends l (nodes_entries ns l 0)
   nodes_ascend l [] h = tt
   nodes_ascend l (n ∷ ns) h =
-      let first = first_node n ns l (and_left (is_scalar_node n) (list_all is_scalar_node ns) h) in
-      subst (Ascends l) (sym first.1) (omega arith, refl, nodes_ascend (l + 1) ns (and_right (is_scalar_node n) (list_all is_scalar_node ns) h))
+      let first = first_node n ns l (and_left (is_flat_node n) (list_all is_flat_node ns) h) in
+      subst (Ascends l) (sym first.1) (omega arith, refl, nodes_ascend (l + 1) ns (and_right (is_flat_node n) (list_all is_flat_node ns) h))
 
-  panel_ascends : (l : ℕ) (items : List PanelItem) (es : List Entry) → Ascends (l + length items) es → Ascends l (panel_entries items l ++ es)
+  pub panel_ascends : (l : ℕ) (items : List PanelItem) (es : List Entry) → Ascends (l + length items) es → Ascends l (panel_entries items l ++ es)
   panel_ascends l [] es up = subst (λ n. Ascends n es) (omega arith) up
   panel_ascends l (Control name t required given out ∷ items) es up =
       ascends_from l (l + 1) _ (omega arith) (panel_ascends (l + 1) items es (subst (λ n. Ascends n es) (omega arith) up))
@@ -230,7 +215,7 @@ module _ (find : Finder) where
 abbrev pub table_of : Vi → Table
 table_of vi = add_all (add_all [] (given_panel 1 vi.panel)) (given_nodes (length vi.panel + 1) vi.top.nodes)
 
-finds : (vi : Vi) (free : Freedom) → list_all is_scalar_node vi.top.nodes ≡ true → (q : List ℕ)
+pub finds : (vi : Vi) (free : Freedom) → list_all is_flat_node vi.top.nodes ≡ true → (q : List ℕ)
     → named (table_of vi) q ≡ source_of (ports_in (control_lines 1 vi.panel ++ entries_lines free (entries_of vi))) 0 q
 finds vi free plain q =
     named_add_all (add_all [] (given_panel 1 vi.panel)) (given_nodes (length vi.panel + 1) vi.top.nodes) q
@@ -239,19 +224,6 @@ finds vi free plain q =
     ∙ ap (or_else (named (given_panel 1 vi.panel) q)) (sym (nodes_sources (λ name. None) q (1 + length vi.panel) vi.top.nodes free plain))
     ∙ sym (panel_sources q 1 vi.panel free (entries_of vi)
     ∙ ap (or_else (named (given_panel 1 vi.panel) q)) (shown_sources q 1 vi.panel free (nodes_entries vi.top.nodes (1 + length vi.panel) 0)))
-
-pub is_plan : (h : Hierarchy) (vi : Vi) → h.vis ≡ vi ∷ [] → IsNumberVi vi → (table : Table) → table ≡ table_of vi → (steps : List Step) → steps ≡ map (step_of (named table)) (entries_of vi)
-    → IsPlan (program h) steps
-is_plan h vi one is table table_is steps steps_is = record {
-  vi = flat_vi h.vis vi;
-  first = ap (λ vis. slice_get (map (flat_vi h.vis) vis) 0) one;
-  find = named table;
-  finds = λ q. ap (λ es. named es q) table_is ∙ finds vi (freedom h.vis) is.nodes q;
-  steps_are = steps_is;
-  ascends = ascends_from (λ name. None) 0 1 (entries_of vi) (omega arith)
-      (panel_ascends (λ name. None) 1 vi.panel (nodes_entries vi.top.nodes (1 + length vi.panel) 0) (nodes_ascend (λ name. None) (1 + length vi.panel) vi.top.nodes is.nodes));
-  plain = ap (list_all step_plain) steps_is ∙ panel_plain (named table) 1 vi.panel (nodes_entries vi.top.nodes (1 + length vi.panel) 0) (nodes_plain (named table) (1 + length vi.panel) vi.top.nodes is.nodes);
-}
 
 -- what follows from what is known of an answer
 pub if_ok : {T E : Type 0} (r : Result T E) (P Q : T → Type 0) → ((x : T) → P x → Q x) → IfOk r P → IfOk r Q

@@ -62,12 +62,15 @@ only s = record { vis = vi_of s ∷ [] }
 -- the program of a VI whose nodes are these
 abbrev pub program_with : Sketch → List Entry → Program
 program_with s es = record {
-  panel = s.panel;
-  entries = es;
-  ports = ports_in (control_lines 1 s.panel ++ entries_lines (freedom (vi_of s ∷ [])) es);
-} ∷ []
+  vis = record {
+    panel = s.panel;
+    entries = es;
+    ports = ports_in (control_lines 1 s.panel ++ entries_lines (freedom (vi_of s ∷ [])) es);
+  } ∷ [];
+  main = 0;
+}
 
-pub same_program : (s : Sketch) → program (only s) ≡ program_with s (sketch_entries s)
+pub same_program : (s : Sketch) → program (only s) 0 ≡ program_with s (sketch_entries s)
 same_program s = ap (program_with s) (same_entries s)
 
 abbrev pub number : ℤ → Value

@@ -1,15 +1,10 @@
 -- One firing: what it needs, and what it does.
 use Rattle.std.specs.Prelude.{ℕ, ◌+◌, ◌-◌, ◌==◌, Bool, true, false, ◌&&◌, not, List, [], ◌∷◌, map, length, slice_get, slice_set, Option, Some, None, is_some, is_none, if◌then◌else◌}
 use Rattle.std.specs.List.{list_all}
-use Rattle.g_types.specs.declared.ty.Ty.{Ty, out-Ty}
-use Rattle.g_types.specs.declared.ty.Ty.TheOpen.{Ty-F}
 use Rattle.g_values.specs.declared.value.Value.{Value}
 use Rattle.g_values.specs.declared.value.Value.TheVariants as value
 use Rattle.g_values.specs.Coerce.{coerced}
-use Rattle.g_values.specs.Number.{num_of}
-use Rattle.g_diagram.specs.declared.panel.Lit.{Lit}
-use Rattle.g_diagram.specs.declared.panel.Lit.TheViews.{out-Lit}
-use Rattle.g_diagram.specs.declared.panel.Lit.TheOpen.{Lit-F}
+use Rattle.g_literals.specs.Values.{literal_value}
 use Rattle.g_diagram.specs.Lines.{Wire, Entry, Kind, Const, Apply, Shows}
 use Rattle.g_operations.specs.Values.{outputs_of}
 use Rattle.g_fire.specs.declared.firing.Firing.{Firing}
@@ -70,19 +65,6 @@ value_on outer (Some name) = or_false (outer name)
 
 -- ---- what each kind of node does
 
--- the value of a literal of a type: a number of a number type, and TRUE or FALSE of bool. A literal of another form has no value yet
-abbrev pub literal_at : Ty-F Ty → Lit-F Lit → Option Value
-literal_at (Ty-F.Num r) (Lit-F.Number n) = Some (value.Num (num_of r n))
-literal_at Ty-F.Bool (Lit-F.Truth b) = Some (value.Bool b)
-literal_at _ _ = None
-
-abbrev pub literal_value : Ty → Lit → Option Value
-literal_value t literal = literal_at (out-Ty t) (out-Lit literal)
-
-abbrev pub const_effect : (line : ℕ) → Option Value → Option Effect
-const_effect line None = None
-const_effect line (Some v) = Some (gives Once (outputs_from line 1 (v ∷ [])))
-
 -- the cell of a panel line takes a value
 abbrev pub shows_in : (object line : ℕ) → Value → Option Content → Option Effect
 shows_in object line v None = None
@@ -91,7 +73,7 @@ shows_in object line v (Some (Panel cells)) = Some (record { fired = Once; gives
 -- The next firing of a node that isn't done and has its inputs, by the firings that it has done, if it can fire. A node of a kind that
 -- isn't built can't
 abbrev pub effect : FireState → Frame → (line : ℕ) → Reader → Kind → List Fired → Option Effect
-effect s f line outer (Const t literal out) fired = const_effect line (literal_value t literal)
+effect s f line outer (Const t literal out) fired = Some (gives Once (outputs_from line 1 (literal_value literal t ∷ [])))
 effect s f line outer (Apply op inputs outputs) fired = Some (gives Once (outputs_from line (length inputs + 1) (outputs_of op (map (value_on outer) inputs))))
 effect s f line outer (Shows name t w) fired = shows_in (panel_object f.space) line (coerced (value_on outer w) t) (slice_get s.objects (panel_object f.space))
 effect s f line outer _ fired = None

@@ -3,9 +3,7 @@ use Rattle.std.specs.Prelude.{◌≡◌, ◌↔◌, ℕ, ◌+◌, Bool, true, �
 use Rattle.std.specs.List.{list_all, list_any}
 use Rattle.g_values.specs.declared.value.Value.{Value}
 use Rattle.g_diagram.specs.declared.hierarchy.Hierarchy.{Hierarchy}
-use Rattle.g_diagram.specs.declared.hierarchy.Vi.{Vi}
 use Rattle.g_diagram.specs.Leads.{Leads}
-use Rattle.g_scalars.specs.Scalars.{IsNumberForm}
 use Rattle.g_diagram.specs.Ports.{Port, ports_of, sources, consumers, is_wired, are_joined, has_wire}
 use Rattle.g_fire.specs.declared.firing.Firing.{Firing}
 use Rattle.g_fire.specs.declared.firing.FrameNode.{FrameNode}
@@ -14,8 +12,8 @@ use Rattle.g_fire.specs.declared.state.End.TheVariants.{Complete}
 use Rattle.g_fire.specs.declared.state.FireState.{FireState}
 use Rattle.g_fire.specs.declared.state.Fired.{Fired}
 use Rattle.g_fire.specs.Maps.{value_at}
-use Rattle.g_fire.specs.Plan.{AreControls}
 use Rattle.g_fire.specs.Program.{Program, program}
+use Rattle.g_fire.specs.Flat.{IsFlat, HasAllTypes, AreControls}
 use Rattle.g_fire.specs.Fire.{can_fire, fire}
 use Rattle.g_fire.specs.Run.{after, after_from, first_refused, is_at_rest, IsAtRest, end_of}
 
@@ -57,8 +55,9 @@ pub record IsWellWired (ps : List Port) : Type 0 where
   pub sourced : IsTrue (list_all (has_source ps) (consumers ps))
   pub acyclic : (line : ℕ) → Leads (has_wire ps) line line → ⊥
 
--- a run of a well-wired VI never stalls: where nothing can fire, all nodes are done
+-- a run of a well-wired VI whose wires all have types never stalls: where nothing can fire, all nodes are done
 abbrev pub Finishes : Type 0
 Finishes =
-    (h : Hierarchy) (controls : List Value) (trace : List Firing) (s : FireState) → IsNumberForm h → ((vi : Vi) → h.vis ≡ vi ∷ [] → IsWellWired (ports_of h.vis vi)) → AreControls h controls
-    → after (program h) controls trace ≡ Some s → IsAtRest (program h) s → end_of (program h) s ≡ Complete
+    (h : Hierarchy) (main : ℕ) (flat : IsFlat h main) → HasAllTypes h main flat → IsWellWired (ports_of h.vis flat.vi)
+    → (controls : List Value) (trace : List Firing) (s : FireState) → AreControls h main controls
+    → after (program h main) controls trace ≡ Some s → IsAtRest (program h main) s → end_of (program h main) s ≡ Complete

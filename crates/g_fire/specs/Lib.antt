@@ -2,10 +2,10 @@ pub mod Maps
 pub mod Wires
 pub mod Names
 pub mod Program
+pub mod Flat
 pub mod State
 pub mod Fire
 pub mod Cells
-pub mod Sums
 pub mod Run
 pub mod Plan
 pub mod Print

@@ -1,14 +1,17 @@
 -- What the code keeps of each node, and what its firing does by it.
 use Rattle.std.specs.Prelude.{◌≡◌, ℕ, ◌+◌, ◌≤◌, ◌==◌, Bool, true, false, ◌&&◌, not, IsTrue, ⊤, List, [], ◌∷◌, map, length, slice_get, Option, Some, None, is_some}
-use Rattle.std.specs.List.{list_all, count_by}
-use Rattle.g_values.specs.declared.value.Value.{Value, out-Value}
-use Rattle.g_values.specs.declared.value.Value.TheOpen.{Value-F}
+use Rattle.std.specs.List.{All, list_all}
+use Rattle.g_types.specs.declared.ty.Ty.{Ty}
+use Rattle.g_values.specs.declared.primitive.Primitive.{Primitive}
+use Rattle.g_values.specs.declared.value.Value.{Value}
+use Rattle.g_values.specs.Proper.{IsProper}
+use Rattle.g_values.specs.Value.{type_of}
+use Rattle.g_operations.specs.Conditions.{HasRow}
+use Rattle.g_operations.specs.Rows.{row_of}
 use Rattle.g_values.specs.declared.value.Value.TheVariants as value
 use Rattle.g_values.specs.Coerce.{coerced}
-use Rattle.g_diagram.specs.declared.hierarchy.Hierarchy.{Hierarchy}
-use Rattle.g_diagram.specs.declared.hierarchy.Vi.{Vi}
-use Rattle.g_scalars.specs.Names.{is_indicator}
-use Rattle.g_scalars.specs.Scalars.{is_operation}
+use Rattle.g_diagram.specs.declared.panel.PanelItem.{PanelItem}
+use Rattle.g_diagram.specs.declared.panel.PanelItem.TheVariants.{Control, Indicator}
 use Rattle.g_diagram.specs.Lines.{Wire, Entry, Kind, Const, Apply, Shows}
 use Rattle.g_operations.specs.Values.{outputs_of}
 use Rattle.g_fire.specs.declared.maps.Terminal.{Terminal}
@@ -23,7 +26,8 @@ use Rattle.g_fire.specs.declared.state.Fired.TheVariants.{Once}
 use Rattle.g_fire.specs.State.{is_done}
 use Rattle.g_fire.specs.Program.{FlatVi, Program, vi_in}
 use Rattle.g_fire.specs.Wires.{source_of, inputs_of}
-use Rattle.g_fire.specs.Fire.{Effect, literal_value, gives, outputs_from, value_from, or_false, guard, shows_in, or_same}
+use Rattle.g_literals.specs.Values.{literal_value}
+use Rattle.g_fire.specs.Fire.{Effect, gives, outputs_from, value_from, or_false, guard, shows_in, or_same}
 use Rattle.g_fire.specs.Run.{firing}
 
 -- where names have their sources
@@ -38,13 +42,9 @@ abbrev pub input_on : Finder → Wire → Input
 input_on find None = Unwired
 input_on find (Some name) = found_input (find name)
 
-abbrev pub const_work : Option Value → Work
-const_work None = work.Never
-const_work (Some v) = work.Give v
-
 abbrev pub work_of : Kind → Work
-work_of (Const t literal out) = const_work (literal_value t literal)
-work_of (Apply op inputs outputs) = work.Apply op (length inputs + 1)
+work_of (Const t literal out) = work.Give (literal_value literal t)
+work_of (Apply op inputs outputs) = work.Apply op
 work_of (Shows name t w) = work.Show t
 work_of _ = work.Never
 
@@ -76,7 +76,7 @@ first_value (v ∷ vs) = v
 abbrev pub work_effect : FireState → (line : ℕ) → List Value → Work → Option Effect
 work_effect s line vs work.Never = None
 work_effect s line vs (work.Give v) = Some (gives Once (outputs_from line 1 (v ∷ [])))
-work_effect s line vs (work.Apply op first) = Some (gives Once (outputs_from line first (outputs_of op vs)))
+work_effect s line vs (work.Apply op) = Some (gives Once (outputs_from line (length vs + 1) (outputs_of op vs)))
 work_effect s line vs (work.Show t) = shows_in 0 line (coerced (first_value vs) t) (slice_get s.objects 0)
 
 abbrev pub step_effect : FireState → Step → Option Effect
@@ -88,19 +88,7 @@ step_can s st = is_some (step_effect s st)
 abbrev pub step_fired : FireState → Step → FireState
 step_fired s st = or_same s (firing 0 st.line) (step_effect s st)
 
--- ---- the form: numbers and Booleans
-
-abbrev pub is_scalar_at : Value-F Value → Bool
-is_scalar_at (Value-F.Num x) = true
-is_scalar_at (Value-F.Bool b) = true
-is_scalar_at _ = false
-
--- a number or a Boolean
-abbrev pub is_scalar : Value → Bool
-is_scalar v = is_scalar_at (out-Value v)
-
-abbrev pub are_scalars : List (Terminal × Value) → Bool
-are_scalars known = list_all (λ e. is_scalar e.1) known
+-- ---- types
 
 abbrev pub is_wired : Input → Bool
 is_wired Unwired = false
@@ -108,13 +96,76 @@ is_wired Missing = true
 is_wired (From source) = true
 
 abbrev pub plain_work : (inputs : ℕ) → Work → Bool
-plain_work n work.Never = true
-plain_work n (work.Give v) = is_scalar v
-plain_work n (work.Apply op first) = is_operation op n
 plain_work n (work.Show t) = n == 1
+plain_work n _ = true
 
+-- each input is named, and an indicator has one
 abbrev pub step_plain : Step → Bool
 step_plain st = plain_work (length st.inputs) st.work && list_all is_wired st.inputs
+
+-- the types of what sources give
+abbrev pub Kinds : Type 0
+Kinds = WireSource → Option Ty
+
+abbrev pub at_operand : (line operand : ℕ) → WireSource
+at_operand line operand = record { line = line; operand = operand }
+
+-- a value of its source's type
+pub record IsKnown (kinds : Kinds) (t : Terminal) (v : Value) : Type 0 where
+  pub proper : IsProper v
+  pub kind : kinds (at_operand t.line t.operand) ≡ Some (type_of v)
+
+abbrev pub AreKnown : Kinds → List (Terminal × Value) → Type 0
+AreKnown kinds [] = ⊤
+AreKnown kinds (e ∷ es) = IsKnown kinds e.0 e.1 × AreKnown kinds es
+
+abbrev pub input_kind : Kinds → Input → Option Ty
+input_kind kinds Unwired = None
+input_kind kinds Missing = None
+input_kind kinds (From source) = kinds source
+
+-- the operands of a line from one on give values of exactly these types
+abbrev pub GiveKinds : Kinds → (line first : ℕ) → List Ty → Type 0
+GiveKinds kinds line first ts = (i : ℕ) → kinds (at_operand line (first + i)) ≡ slice_get ts i
+
+-- the types of the inputs have a row, and the outputs are of its types
+pub record HasKinds (kinds : Kinds) (line first : ℕ) (op : Primitive) (ts : List Ty) : Type 0 where
+  pub outs : List Ty
+  pub row : row_of op ts ≡ Some outs
+  pub give : GiveKinds kinds line first outs
+
+abbrev pub IsTypedWork : Kinds → (line : ℕ) → (inputs : List (Option Ty)) → Work → Type 0
+IsTypedWork kinds line ins (work.Give v) = IsProper v × (kinds (at_operand line 1) ≡ Some (type_of v))
+IsTypedWork kinds line ins (work.Apply op) = (ts : List Ty) → ins ≡ map Some ts → HasKinds kinds line (length ins + 1) op ts
+IsTypedWork kinds line ins _ = ⊤
+
+abbrev pub IsTypedStep : Kinds → Step → Type 0
+IsTypedStep kinds st = IsTypedWork kinds st.line (map (input_kind kinds) st.inputs) st.work
+
+-- the operands at which a node of so many inputs gives values
+abbrev pub GivesWork : Kinds → (line inputs : ℕ) → Work → (operand : ℕ) → Type 0
+GivesWork kinds line n (work.Give v) j = j ≡ 1
+GivesWork kinds line n (work.Apply op) j = (i : ℕ) × (j ≡ n + 1 + i) × (is_some (kinds (at_operand line j)) ≡ true)
+GivesWork kinds line n _ j = ⊥
+
+-- the controls on the lines of a panel from one on give values of their types
+abbrev pub ControlsGive : Kinds → (line : ℕ) → List PanelItem → Type 0
+ControlsGive kinds line [] = ⊤
+ControlsGive kinds line (Control name t required given out ∷ items) = (kinds (at_operand line 1) ≡ Some t) × ControlsGive kinds (line + 1) items
+ControlsGive kinds line (Indicator name t input ∷ items) = ControlsGive kinds (line + 1) items
+
+-- what a primitive is handed: proper values whose types have a row
+pub record Fits (op : Primitive) (vs : List Value) : Type 0 where
+  pub proper : All IsProper vs
+  pub row : HasRow op vs
+
+abbrev pub FitsWork : List Value → Work → Type 0
+FitsWork vs (work.Apply op) = Fits op vs
+FitsWork vs _ = ⊤
+
+-- what a node takes in a state is what it can be applied to
+abbrev pub FitsStep : FireState → Step → Type 0
+FitsStep s st = FitsWork (map (value_of_input s) st.inputs) st.work
 
 -- the step at a place can fire
 abbrev pub CanAt : FireState → List Step → ℕ → Type 0
@@ -134,8 +185,6 @@ pub record IsPlan (p : Program) (steps : List Step) : Type 0 where
   pub steps_are : steps ≡ map (step_of find) vi.entries
   pub ascends : Ascends 0 vi.entries
   pub plain : IsTrue (list_all step_plain steps)
-
--- a number or a Boolean for each control
-pub record AreControls (h : Hierarchy) (controls : List Value) : Type 0 where
-  pub scalars : IsTrue (list_all is_scalar controls)
-  pub each : (vi : Vi) → h.vis ≡ vi ∷ [] → length controls ≡ count_by (λ item. not (is_indicator item)) vi.panel
+  pub kinds : Kinds
+  pub typed : (k : ℕ) (st : Step) → slice_get steps k ≡ Some st → IsTypedStep kinds st
+  pub controls : ControlsGive kinds 1 vi.panel

@@ -1,4 +1,4 @@
--- A hierarchy as the firing machine sees it: of each VI its panel, its nodes and its ports.
+-- A hierarchy as the firing machine sees it: of each VI its panel, its nodes and its ports, and which VI runs.
 use Rattle.std.specs.Prelude.{ℕ, zero, suc, List, map, Option, None, slice_get}
 use Rattle.g_diagram.specs.declared.hierarchy.Hierarchy.{Hierarchy}
 use Rattle.g_diagram.specs.declared.hierarchy.Vi.{Vi}
@@ -14,13 +14,15 @@ pub record FlatVi : Type 0 where
 abbrev pub flat_vi : List Vi → Vi → FlatVi
 flat_vi vis vi = record { panel = vi.panel; entries = entries_of vi; ports = ports_of vis vi }
 
-abbrev pub Program : Type 0
-Program = List FlatVi
+pub record Program : Type 0 where
+  pub vis : List FlatVi
+  -- the number of the VI that runs
+  pub main : ℕ
 
-abbrev pub program : Hierarchy → Program
-program h = map (flat_vi h.vis) h.vis
+abbrev pub program : Hierarchy → (main : ℕ) → Program
+program h main = record { vis = map (flat_vi h.vis) h.vis; main = main }
 
--- the VI of a data space: data space 0 is that of the VI that runs, the first one
+-- the VI of a data space: data space 0 is that of the VI that runs
 abbrev pub vi_in : Program → (space : ℕ) → Option FlatVi
-vi_in p zero = slice_get p 0
+vi_in p zero = slice_get p.vis p.main
 vi_in p (suc k) = None

@@ -64,14 +64,18 @@ first_cells (Indicator name t input ∷ items) vs = default t ∷ first_cells it
 abbrev pub first_frame : Frame
 first_frame = record { space = 0; diagram = 0; opener = None; iteration = 0 }
 
+-- the first state of a panel's VI
+abbrev pub begun : List PanelItem → List Value → FireState
+begun panel controls = record {
+  frames = first_frame ∷ [];
+  values = control_values 1 panel controls [];
+  done = [];
+  objects = Panel (first_cells panel controls) ∷ [];
+}
+
 abbrev pub start_of : Option FlatVi → List Value → FireState
 start_of None controls = record { frames = []; values = []; done = []; objects = [] }
-start_of (Some vi) controls = record {
-  frames = first_frame ∷ [];
-  values = control_values 1 vi.panel controls [];
-  done = [];
-  objects = Panel (first_cells vi.panel controls) ∷ [];
-}
+start_of (Some vi) controls = begun vi.panel controls
 
 -- frame 0 is open, the controls are set, and nothing was fired
 abbrev pub start : Program → (controls : List Value) → FireState

@@ -11,7 +11,6 @@ mod print;
 mod run;
 mod start;
 mod state;
-mod sums;
 
 pub use firing::{Firing, FrameNode, Trace};
 pub use laws::run_laws;

@@ -1,9 +1,8 @@
 //! One firing of a node of frame 0.
 
-ghost use Rattle.std.specs.Prelude.{◌≡◌, ◌∷◌, ◌<◌, [], length, IfOk, IsTrue, OnOk};
+ghost use Rattle.std.specs.Prelude.{◌≡◌, ◌∷◌, ◌<◌, ◌+◌, ◌^◌, [], length, map, IfOk, IsTrue, OnOk};
 ghost use Rattle.g_fire.specs.Cells.{with_cell};
 ghost use Rattle.g_fire.specs.State.{is_last};
-ghost use Rattle.g_scalars.specs.Scalars.{is_operation};
 ghost use Rattle.g_operations.specs.Values.{outputs_of};
 
 use crate::firing::FrameNode;
@@ -11,15 +10,15 @@ use crate::maps::Terminal;
 use crate::plan::{Input, Step, Work};
 use crate::start::copied;
 use crate::state::{Content, FireState, Fired};
-use crate::sums::{given_by_one, given_by_two};
 use g_lists::List;
-use g_values::{Primitive, Value, coerce};
+use g_prims::apply;
+use g_values::{Primitive, Value, ValueList, coerce};
 use std::alloc::{AllocError, Global};
 
 impl FireState {
     ghost use Rattle.std.specs.Option.{option_copied};
     ghost use Rattle.g_fire.specs.State.{is_done};
-    ghost use Rattle.g_fire.specs.Plan.{input_value, has_input, value_of_input, step_ready, step_can, is_scalar};
+    ghost use Rattle.g_fire.specs.Plan.{input_value, has_input, value_of_input, step_ready, step_can};
 
     fn input_value(&self, input: Input) -> Option<&Value>
         ensures { option_copied result ≡ input_value self.now input }
@@ -53,37 +52,15 @@ impl FireState {
         }
     }
 
-    /// What an operation of one input gives.
-    fn given_one(
-        &self,
-        alloc: Global,
-        primitive: Primitive,
-        input: Input,
-    ) -> Result<Value, AllocError>
-        requires operation { IsTrue (is_operation primitive 1) }
-        requires input { IsTrue (is_scalar (value_of_input self.now input)) }
-        ensures { IfOk result (λ v. outputs_of primitive (value_of_input self.now input ∷ []) ≡ v ∷ []) }
+    /// The values on wires, in their order.
+    fn values_of(&self, alloc: Global, inputs: &[Input]) -> Result<List<Value>, AllocError>
+        ensures { IfOk result (λ vs. vs ≡ map (value_of_input self.now) inputs.now) }
     {
-        let value = self.value_of(alloc, input)?;
-        Ok(given_by_one(primitive, &value))
-    }
-
-    /// What an operation of two inputs gives.
-    fn given_two(
-        &self,
-        alloc: Global,
-        primitive: Primitive,
-        left: Input,
-        right: Input,
-    ) -> Result<Value, AllocError>
-        requires operation { IsTrue (is_operation primitive 2) }
-        requires left { IsTrue (is_scalar (value_of_input self.now left)) }
-        requires right { IsTrue (is_scalar (value_of_input self.now right)) }
-        ensures { IfOk result (λ v. outputs_of primitive (value_of_input self.now left ∷ value_of_input self.now right ∷ []) ≡ v ∷ []) }
-    {
-        let left = self.value_of(alloc, left)?;
-        let right = self.value_of(alloc, right)?;
-        Ok(given_by_two(primitive, &left, &right))
+        let mut values = Vec::new(alloc);
+        for input in inputs {
+            values.push(self.value_of(alloc, *input)?)?;
+        }
+        Ok(List::from_vec(values))
     }
 
     /// Whether a node of frame 0 has no firing left.
@@ -120,7 +97,7 @@ impl FireState {
         }
         match &step.work {
             Work::Never => false,
-            Work::Give(_) | Work::Apply { .. } => true,
+            Work::Give(_) | Work::Apply(_) => true,
             Work::Show(_) => self.objects.get(0).is_some(),
         }
     }
@@ -150,7 +127,7 @@ fn is_last(fired: Fired) -> bool
 
 impl FireState {
     ghost use Rattle.std.specs.Prelude.{slice_get, true};
-    ghost use Rattle.g_fire.specs.Plan.{step_can, step_fired, step_plain, are_scalars};
+    ghost use Rattle.g_fire.specs.Plan.{step_can, step_fired, step_plain, value_of_input, Fits, FitsStep};
     ghost use Rattle.g_fire.specs.Run.{firing};
     ghost use Rattle.g_fire.specs.Fire.{gives, shows_in, applied, or_same, outputs_from};
     ghost use Rattle.g_fire.specs.declared.state.Fired.TheVariants.{Once};
@@ -172,6 +149,46 @@ impl FireState {
         };
         self.values.put(source, value)?;
         self.end(alloc, line)
+    }
+
+    /// Fires a node that gives values, at the operands of its line from one on.
+    fn give_all(
+        &mut self,
+        alloc: Global,
+        line: u64,
+        first: u64,
+        values: List<Value>,
+    ) -> Result<(), AllocError>
+        requires { first + length values < 2 ^ 64 }
+        ensures { OnOk result (self.new ≡ applied self.old (firing 0 line) (gives Once (outputs_from line first values))) }
+    {
+        let mut operand = first;
+        for value in values.into_vec() {
+            let source = Terminal {
+                frame: 0,
+                line,
+                operand,
+            };
+            self.values.put(source, value)?;
+            operand += 1;
+        }
+        self.end(alloc, line)
+    }
+
+    /// Fires a primitive on its inputs.
+    fn apply(
+        &mut self,
+        alloc: Global,
+        line: u64,
+        primitive: Primitive,
+        inputs: &[Input],
+    ) -> Result<(), AllocError>
+        requires { Fits primitive (map (value_of_input self.old) inputs.now) }
+        ensures { OnOk result (self.new ≡ applied self.old (firing 0 line) (gives Once (outputs_from line (length inputs.now + 1) (outputs_of primitive (map (value_of_input self.old) inputs.now))))) }
+    {
+        let values = ValueList::from_list(self.values_of(alloc, inputs)?);
+        let outs = apply(alloc, &primitive, &values)?;
+        self.give_all(alloc, line, inputs.len() as u64 + 1, outs.into_list())
     }
 
     /// Notes that a node has fired.
@@ -198,7 +215,7 @@ impl FireState {
     pub(crate) fn fire(&mut self, alloc: Global, step: &Step) -> Result<(), AllocError>
         requires can { step_can self.old step.now ≡ true }
         requires plain { IsTrue (step_plain step.now) }
-        requires scalars { IsTrue (are_scalars self.old.values) }
+        requires fits { FitsStep self.old step.now }
         ensures { OnOk result (self.new ≡ step_fired self.old step.now) }
     {
         match (&step.work, step.inputs.as_slice()) {
@@ -206,14 +223,7 @@ impl FireState {
                 let value = copied(alloc, value)?;
                 self.give(alloc, step.line, 1, value)
             }
-            (Work::Apply { primitive, first }, [input]) => {
-                let value = self.given_one(alloc, *primitive, *input)?;
-                self.give(alloc, step.line, *first, value)
-            }
-            (Work::Apply { primitive, first }, [left, right]) => {
-                let value = self.given_two(alloc, *primitive, *left, *right)?;
-                self.give(alloc, step.line, *first, value)
-            }
+            (Work::Apply(primitive), inputs) => self.apply(alloc, step.line, *primitive, inputs),
             (Work::Show(ty), [input]) => {
                 let value = self.value_of(alloc, *input)?;
                 self.show(alloc, step.line, coerce(value, ty))

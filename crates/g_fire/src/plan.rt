@@ -3,17 +3,17 @@
 ghost use Rattle.std.specs.Prelude.{◌≡◌, ◌∷◌, [], Some, IsTrue, map, IfOk};
 ghost use Rattle.std.specs.List.{list_all};
 ghost use Rattle.g_diagram.specs.Lines.{lines_of, panel_entries, entries_of};
-ghost use Rattle.g_scalars.specs.Scalars.{is_scalar_node};
-ghost use Rattle.g_fire.specs.Fire.{literal_value};
+ghost use Rattle.g_fire.specs.Flat.{is_flat_node};
 ghost use Rattle.g_fire.specs.Names.{named};
-ghost use Rattle.g_fire.specs.Plan.{input_on, const_work, step_of};
+ghost use Rattle.g_fire.specs.Plan.{input_on, step_of};
 
 use crate::maps::WireSource;
 use crate::names::Names;
-use g_diagram::{Lit, Node, PanelItem, Vi, Wire};
+use g_diagram::{Node, PanelItem, Vi, Wire};
 use g_lists::List;
+use g_literals::literal_value;
 use g_types::{Name, Ty};
-use g_values::{Num, Primitive, Value};
+use g_values::{Primitive, Value};
 use std::alloc::{AllocError, Global};
 
 /// Where an input has its value from.
@@ -31,8 +31,8 @@ pub(crate) enum Work {
     /// It is of a kind that isn't built.
     Never,
     Give(Value),
-    /// With the operand of the first output.
-    Apply { primitive: Primitive, first: u64 },
+    /// It gives what the primitive gives for its inputs.
+    Apply(Primitive),
     /// The type is that of the indicator.
     Show(Ty),
 }
@@ -67,51 +67,25 @@ fn led_inputs(alloc: Global, names: &Names, wires: &[Wire]) -> Result<List<Input
     Ok(List::from_vec(all))
 }
 
-/// The value of a literal of a number type or bool.
-fn literal_value(ty: &Ty, literal: &Lit) -> Option<Value>
-    ensures { result ≡ literal_value ty.now literal.now }
-{
-    match (ty, literal) {
-        (Ty::Num(rep), Lit::Number(n)) => Some(Value::Num(Num::wrapped(*rep, *n))),
-        (Ty::Bool, Lit::Truth(b)) => Some(Value::Bool(*b)),
-        _ => None,
-    }
-}
-
-fn const_work(ty: &Ty, literal: &Lit) -> Work
-    ensures { result ≡ const_work (literal_value ty.now literal.now) }
-{
-    match literal_value(ty, literal) {
-        Some(value) => Work::Give(value),
-        None => Work::Never,
-    }
-}
-
 fn node_step(alloc: Global, names: &Names, line: u64, node: &Node) -> Result<Step, AllocError>
-    requires { IsTrue (is_scalar_node node.now) }
+    requires { IsTrue (is_flat_node node.now) }
     ensures { IfOk result (λ step. map (step_of (named names.now)) ((lines_of node.now).entries line 0) ≡ step ∷ []) }
 {
     match node {
         Node::Const { ty, literal, .. } => Ok(Step {
             line,
             inputs: List::new(alloc),
-            work: const_work(ty, literal),
+            work: Work::Give(literal_value(alloc, literal, ty)?),
         }),
         Node::Apply {
             primitive,
             inputs: wires,
             ..
-        } => {
-            let wires = wires.as_slice();
-            Ok(Step {
-                line,
-                inputs: led_inputs(alloc, names, wires)?,
-                work: Work::Apply {
-                    primitive: *primitive,
-                    first: wires.len() as u64 + 1,
-                },
-            })
-        }
+        } => Ok(Step {
+            line,
+            inputs: led_inputs(alloc, names, wires.as_slice())?,
+            work: Work::Apply(*primitive),
+        }),
         _ => unreachable!(),
     }
 }
@@ -158,7 +132,7 @@ fn show_step(
 
 /// The nodes of a VI whose nodes have one line each.
 pub(crate) fn plan(alloc: Global, names: &Names, vi: &Vi) -> Result<List<Step>, AllocError>
-    requires { IsTrue (list_all is_scalar_node vi.now.top.nodes) }
+    requires { IsTrue (list_all is_flat_node vi.now.top.nodes) }
     ensures { IfOk result (λ steps. steps ≡ map (step_of (named names.now)) (entries_of vi.now)) }
 {
     let panel = vi.panel.as_slice();

@@ -3,16 +3,17 @@
 ghost use Rattle.std.specs.Prelude.{◌≡◌, ◌++◌, ◌∷◌, [], IfOk, OnOk, codes, slice_get};
 ghost use Rattle.std.specs.List.{list_all};
 ghost use Rattle.g_values.specs.Text.{text};
-ghost use Rattle.g_scalars.specs.Scalars.{IsNumberForm};
+ghost use Rattle.g_fire.specs.Flat.{IsFlat};
 ghost use Rattle.g_fire.specs.Program.{program};
 ghost use Rattle.g_fire.specs.State.{is_done};
 ghost use Rattle.g_fire.specs.Run.{end_of, IsReached};
 ghost use Rattle.g_fire.specs.Print.{indicator_lines, cells_of, end_lines, print};
 
 use crate::plan::Step;
-use crate::run::{least_step, steps_of};
+use crate::run::{least_step, main_vi, steps_of};
 use crate::state::{Content, End, FireState};
 use g_diagram::{Hierarchy, PanelItem};
+use g_hier::Linked;
 use g_types::{Bytes, Name};
 use g_valtext::print_value;
 use g_values::Value;
@@ -85,12 +86,17 @@ fn all_done(state: &FireState, steps: &[Step]) -> bool
 }
 
 /// How a run stands that came to this state. Only want of memory refuses it.
-pub(crate) fn end_at(alloc: Global, h: &Hierarchy, state: &FireState) -> Result<End, AllocError>
-    requires form { IsNumberForm h.now }
-    requires reached { IsReached (program h.now) state.now }
-    ensures { IfOk result (λ end. end ≡ end_of (program h.now) state.now) }
+pub(crate) fn end_at(
+    alloc: Global,
+    h: &Hierarchy,
+    main: u32,
+    state: &FireState,
+) -> Result<End, AllocError>
+    requires form { IsFlat h.now main }
+    requires reached { IsReached (program h.now main) state.now }
+    ensures { IfOk result (λ end. end ≡ end_of (program h.now main) state.now) }
 {
-    let steps = steps_of(alloc, h)?;
+    let steps = steps_of(alloc, h, main)?;
     let steps = steps.as_slice();
     if least_step(steps, state).is_some() {
         return Ok(End::Unfinished);
@@ -103,12 +109,18 @@ pub(crate) fn end_at(alloc: Global, h: &Hierarchy, state: &FireState) -> Result<
 
 /// The printed answer of a state that a run of this hierarchy came to: a line for each indicator of
 /// the VI that runs, and how the run ended.
-pub fn state_text(alloc: Global, h: &Hierarchy, state: &FireState) -> Result<Bytes, AllocError>
-    requires form { IsNumberForm h.now }
-    requires reached { IsReached (program h.now) state.now }
-    ensures { IfOk result (λ all. all ≡ print (program h.now) state.now) }
+pub fn state_text(
+    alloc: Global,
+    h: &Hierarchy,
+    linked: &Linked,
+    state: &FireState,
+) -> Result<Bytes, AllocError>
+    requires form { IsFlat h.now linked.now.main }
+    requires reached { IsReached (program h.now linked.now.main) state.now }
+    ensures { IfOk result (λ all. all ≡ print (program h.now linked.now.main) state.now) }
 {
-    let end = end_at(alloc, h, state)?;
-    let panel = h.vis.as_slice()[0].panel.as_slice();
+    let main = linked.main;
+    let end = end_at(alloc, h, main, state)?;
+    let panel = main_vi(h, main).panel.as_slice();
     lines_text(alloc, panel, panel_cells(state), end_text(end))
 }

@@ -1,9 +1,9 @@
 //! Whole runs.
 
-ghost use Rattle.std.specs.Prelude.{◌≡◌, ◌<◌, false, Some, length, IfOk, IfSome, IfNone};
+ghost use Rattle.std.specs.Prelude.{◌≡◌, ◌<◌, false, Some, length, slice_get, IfOk, IfSome, IfNone};
 ghost use Rattle.std.specs.List.{list_any};
-ghost use Rattle.g_scalars.specs.Scalars.{IsNumberForm};
-ghost use Rattle.g_fire.specs.Plan.{step_can, CanAt, IsPlan, AreControls};
+ghost use Rattle.g_fire.specs.Flat.{IsFlat, AreControls};
+ghost use Rattle.g_fire.specs.Plan.{step_can, CanAt, IsPlan};
 ghost use Rattle.g_fire.specs.Program.{program};
 ghost use Rattle.g_fire.specs.Run.{after, IsAtRest};
 
@@ -12,7 +12,8 @@ use crate::names::names_of;
 use crate::plan::{Input, Step, plan};
 use crate::start::first_state;
 use crate::state::FireState;
-use g_diagram::Hierarchy;
+use g_diagram::{Hierarchy, Vi};
+use g_hier::Linked;
 use g_lists::List;
 use g_values::ValueList;
 use std::alloc::{AllocError, Global};
@@ -93,12 +94,20 @@ fn next_step(steps: &[Step], state: &FireState, noted: &mut BTreeSet<usize>) -> 
     }
 }
 
-/// The nodes of the VI that runs.
-pub(crate) fn steps_of(alloc: Global, h: &Hierarchy) -> Result<List<Step>, AllocError>
-    requires { IsNumberForm h.now }
-    ensures { IfOk result (λ steps. IsPlan (program h.now) steps) }
+/// The VI that runs.
+pub(crate) fn main_vi(h: &Hierarchy, main: u32) -> &Vi
+    requires { IsFlat h.now main }
+    ensures { slice_get h.now.vis main ≡ Some result.now }
 {
-    let vi = &h.vis.as_slice()[0];
+    &h.vis.as_slice()[main as usize]
+}
+
+/// The nodes of the VI that runs.
+pub(crate) fn steps_of(alloc: Global, h: &Hierarchy, main: u32) -> Result<List<Step>, AllocError>
+    requires { IsFlat h.now main }
+    ensures { IfOk result (λ steps. IsPlan (program h.now main) steps) }
+{
+    let vi = main_vi(h, main);
     let names = names_of(alloc, vi)?;
     plan(alloc, &names, vi)
 }
@@ -119,19 +128,26 @@ pub struct Ran {
     pub state: FireState,
 }
 
-/// Runs a hierarchy of one VI of numbers and Booleans on the values of its controls: fires the node of the
-/// least line that can fire, until none can.
-pub fn run_all(alloc: Global, h: &Hierarchy, controls: ValueList) -> Result<Ran, AllocError>
-    requires form { IsNumberForm h.now }
-    requires controls { AreControls h.now controls }
-    ensures allowed { IfOk result (λ ran. after (program h.now) controls ran.trace ≡ Some ran.state) }
-    ensures rest { IfOk result (λ ran. IsAtRest (program h.now) ran.state) }
+/// Runs a hierarchy whose VI that runs has constants, primitives and indicators alone, on the values
+/// of its controls: fires the node of the least line that can fire, until none can. Only want of
+/// memory refuses it.
+pub fn run_all(
+    alloc: Global,
+    h: &Hierarchy,
+    linked: &Linked,
+    controls: ValueList,
+) -> Result<Ran, AllocError>
+    requires form { IsFlat h.now linked.now.main }
+    requires controls { AreControls h.now linked.now.main controls }
+    ensures allowed { IfOk result (λ ran. after (program h.now linked.now.main) controls ran.trace ≡ Some ran.state) }
+    ensures rest { IfOk result (λ ran. IsAtRest (program h.now linked.now.main) ran.state) }
 {
-    let steps = steps_of(alloc, h)?;
+    let main = linked.main;
+    let steps = steps_of(alloc, h, main)?;
     let steps = steps.as_slice();
     let leads = leads_of(alloc, steps)?;
     let mut noted = all_noted(alloc, steps)?;
-    let mut state = first_state(alloc, h, controls.as_slice())?;
+    let mut state = first_state(alloc, main_vi(h, main), controls.as_slice())?;
     let mut trace = Vec::new(alloc);
     for _ in 0..u64::MAX {
         let Some(at) = next_step(steps, &state, &mut noted) else {

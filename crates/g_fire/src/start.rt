@@ -1,13 +1,11 @@
 //! Where a run begins.
 
 ghost use Rattle.std.specs.Prelude.{◌≡◌, [], ◌∷◌, IfOk};
-ghost use Rattle.g_scalars.specs.Scalars.{IsNumberForm};
-ghost use Rattle.g_fire.specs.Program.{program};
-ghost use Rattle.g_fire.specs.State.{control_values, first_cells, start};
+ghost use Rattle.g_fire.specs.State.{control_values, first_cells, begun};
 
 use crate::maps::{Done, Terminal, Values};
 use crate::state::{Content, FireState, Frame};
-use g_diagram::{Hierarchy, PanelItem};
+use g_diagram::{PanelItem, Vi};
 use g_lists::List;
 use g_values::{Copies, Value, copy, default_of};
 use std::alloc::{AllocError, Global};
@@ -64,16 +62,15 @@ fn cells(alloc: Global, panel: &[PanelItem], controls: &[Value]) -> Result<List<
     Ok(List::from_vec(all))
 }
 
-/// The state at which a run begins: frame 0 is open and the controls are set.
+/// The state at which a run of a VI begins: frame 0 is open and the controls are set.
 pub(crate) fn first_state(
     alloc: Global,
-    h: &Hierarchy,
+    vi: &Vi,
     controls: &[Value],
 ) -> Result<FireState, AllocError>
-    requires { IsNumberForm h.now }
-    ensures { IfOk result (λ state. state ≡ start (program h.now) controls.now) }
+    ensures { IfOk result (λ state. state ≡ begun vi.now.panel controls.now) }
 {
-    let panel = h.vis.as_slice()[0].panel.as_slice();
+    let panel = vi.panel.as_slice();
     let frame = Frame {
         space: 0,
         diagram: 0,

@@ -1,4 +1,4 @@
-use Rattle.std.proofs.Common.{ap, sym, ◌∙◌, ◌+◌, map, ◌∷◌, [], length}
+use Rattle.std.proofs.Common.{ap, sym, ◌∙◌, map, ◌∷◌, []}
 use Rattle.g_diagram.specs.Lines.{lines_of}
 use Rattle.g_diagram.proofs.LineLemmas.{lines-Apply}
 use Rattle.g_fire.specs.declared.plan.Step.{Step}
@@ -15,6 +15,5 @@ returns-in_ok-led_inputs-in-Apply c =
     let op = c.in-Apply.primitive in
     let lines = ap lines_of c.in-Apply.is ∙ lines-Apply op wires c.in-Apply.outputs in
     ap (λ ls. map (step_of (named c.args.names.now)) (ls.entries c.args.line 0)) lines
-    ∙ ap (λ ws. let st : Step = record { line = c.args.line; inputs = map f ws; work = work.Apply op (length wires + 1) } in st ∷ []) (inputs-Apply c.args.line 0 op wires c.in-Apply.outputs)
-    ∙ ap (λ ws. let st : Step = record { line = c.args.line; inputs = map f ws; work = work.Apply op (length ws + 1) } in st ∷ []) (sym c.as_slice-wires.ensures)
-    ∙ ap (λ ins. let st : Step = record { line = c.args.line; inputs = ins; work = work.Apply op (length c.as_slice-wires.result.now + 1) } in st ∷ []) (sym c.in_ok-led_inputs-in-Apply.ensures)
+    ∙ ap (λ ws. let st : Step = record { line = c.args.line; inputs = map f ws; work = work.Apply op } in st ∷ []) (inputs-Apply c.args.line 0 op wires c.in-Apply.outputs ∙ sym c.as_slice.ensures)
+    ∙ ap (λ ins. let st : Step = record { line = c.args.line; inputs = ins; work = work.Apply op } in st ∷ []) (sym c.in_ok-led_inputs-in-Apply.ensures)

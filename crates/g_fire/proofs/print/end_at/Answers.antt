@@ -8,7 +8,7 @@ use Rattle.g_fire.proofs.print.end_at.Goals as goal
 
 pub returns-then-is_some : goal.returns-then-is_some
 returns-then-is_some c =
-    let p = program c.args.h.now in
+    let p = program c.args.h.now c.args.main in
     let s = c.args.state.now in
     let steps = c.as_slice-steps.result.now in
     let plan = subst (IsPlan p) (sym c.as_slice-steps.ensures) c.in_ok-steps.ensures in
@@ -17,7 +17,7 @@ returns-then-is_some c =
 
 pub returns-then-all_done : goal.returns-then-all_done
 returns-then-all_done c =
-    let p = program c.args.h.now in
+    let p = program c.args.h.now c.args.main in
     let s = c.args.state.now in
     let steps = c.as_slice-steps.result.now in
     let plan = subst (IsPlan p) (sym c.as_slice-steps.ensures) c.in_ok-steps.ensures in
@@ -26,7 +26,7 @@ returns-then-all_done c =
 
 pub returns : goal.returns
 returns c =
-    let p = program c.args.h.now in
+    let p = program c.args.h.now c.args.main in
     let s = c.args.state.now in
     let steps = c.as_slice-steps.result.now in
     let plan = subst (IsPlan p) (sym c.as_slice-steps.ensures) c.in_ok-steps.ensures in

@@ -1,0 +1,6 @@
+mod Levels
+mod Shapes
+mod NumberRows
+mod ArrayRows
+mod ClusterRows
+pub mod RowOutputs
