@@ -1,0 +1,10 @@
+pub mod Logic
+pub mod Entries
+pub mod Passing
+pub mod Sources
+pub mod Rules
+pub mod Outputs
+pub mod Kept
+pub mod FlatNodes
+pub mod AllTyped
+pub mod Whole

@@ -1,0 +1,5 @@
+pub mod Gives
+pub mod TypesGiven
+pub mod LinesSpelled
+pub mod NodesGiven
+pub mod ListingGiven
