@@ -1,7 +1,8 @@
 #!/bin/bash
-# Makes the listing of a chain of adds, each taking the one before it twice, and times its run. Usage: bench/chain.sh [COUNT]
+# Makes the listing of a chain of adds, each taking the one before it twice, and times its run. Usage: bench/chain.sh [COUNT [PROGRAM]]
 count=${1:-2000}
 here=$(CDPATH= cd -- "$(dirname -- "$0")/.." && pwd) || exit 1
+program=${2:-$here/crates/grun/out/grun}
 listing=$(mktemp) || exit 1
 trap 'rm -f "$listing"' EXIT
 awk -v count="$count" 'BEGIN {
@@ -12,4 +13,4 @@ awk -v count="$count" 'BEGIN {
     for (k = 1; k <= count; k++) print "  add w" k - 1 " w" k - 1 " -> w" k
     print "end"
 }' >"$listing"
-time "$here/grun" run Main a=1 <"$listing"
+time "$program" run Main a=1 <"$listing"

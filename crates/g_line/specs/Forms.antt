@@ -4,7 +4,7 @@ use Rattle.std.specs.List.{AllByRecursion, flat_map}
 use Rattle.g_types.specs.Names.{is_word}
 use Rattle.g_line.specs.declared.forms.Setting.{Setting}
 use Rattle.g_line.specs.declared.forms.Line.{Line}
-use Rattle.g_line.specs.declared.forms.Line.TheVariants.{Run, Print}
+use Rattle.g_line.specs.declared.forms.Line.TheVariants.{Run, Check, Print}
 
 -- a word, by its bytes
 abbrev pub Word : Type 0
@@ -37,9 +37,15 @@ pub record IsRun (words : List Word) (main : Word) (settings : List Setting) (ar
   pub right : AllByRecursion IsArgument arguments
   pub given : settings ≡ settings_of arguments
 
+-- `check MAIN`
+pub record IsCheck (words : List Word) (main : Word) : Type 0 where
+  pub written : words ≡ codes "check" ∷ main ∷ []
+  pub main_is_name : is_word main ≡ true
+
 -- the words are written so, by one case a command
 abbrev pub HasLine : List Word → Line → Type 0
 HasLine words (Run main settings) = (arguments : List Argument) × IsRun words main settings arguments
+HasLine words (Check main) = IsCheck words main
 HasLine words Print = words ≡ codes "print" ∷ []
 
 -- examples: `run Main a=1 b==` has the settings 1 and `=`
@@ -57,6 +63,10 @@ runs_main = (
     given = refl;
   },
 )
+
+-- `check Main` is a line
+checks_main : HasLine (codes "check" ∷ codes "Main" ∷ []) (Check (codes "Main"))
+checks_main = record { written = refl; main_is_name = refl }
 
 -- `print` is a line
 prints : HasLine (codes "print" ∷ []) Print

@@ -25,6 +25,10 @@ pub enum Line {
         /// In the order of the words; a name may stand twice.
         settings: List<Setting>,
     },
+    /// `check MAIN` alone: checks the listing by all rules, with the VI of that name as its main one.
+    Check {
+        main: Name,
+    },
     /// `print` alone: prints the canonical text of a listing.
     Print,
 }

@@ -72,6 +72,20 @@ fn run(alloc: Global, words: &[String]) -> Result<Line, LineRefused>
     Ok(Line::Run { main, settings })
 }
 
+/// `check MAIN`, which takes no further word.
+fn check(alloc: Global, words: &[String]) -> Result<Line, LineRefused>
+    requires { slice_get (map string_bytes words.now) 0 ≡ Some (codes "check") }
+    ensures has { IfOk result (HasLine (map string_bytes words.now)) }
+    ensures only { IfOk result (IsOnlyLine (map string_bytes words.now)) }
+    ensures refused { IfErr result (IsRefusal (map string_bytes words.now)) }
+{
+    let main = read_main(alloc, words)?;
+    if words.len() > 2 {
+        return Err(LineRefused::Usage(3));
+    }
+    Ok(Line::Check { main })
+}
+
 /// `print`, which takes no further word.
 fn print(words: &[String]) -> Result<Line, LineRefused>
     requires { slice_get (map string_bytes words.now) 0 ≡ Some (codes "print") }
@@ -98,6 +112,7 @@ pub fn line(alloc: Global, words: &Vec<String>) -> Result<Line, LineRefused>
     };
     match command.as_str() {
         "run" => run(alloc, words),
+        "check" => check(alloc, words),
         "print" => print(words),
         _ => Err(LineRefused::Usage(1)),
     }
@@ -126,6 +141,9 @@ mod tests {
             ("print x", 2),
             ("print print", 2),
             ("run", 2),
+            ("check", 2),
+            ("check 2nd x", 2),
+            ("check Main a=1", 3),
             ("run 2nd", 2),
             ("run Main a=1 b", 4),
             ("run Main --workers 33", 3),
@@ -137,6 +155,18 @@ mod tests {
                 _ => assert!(rt; false, "at {text}"),
             }
         }
+        Ok(())
+    }
+
+    #[test]
+    fn check_has_its_main(rt: HostRuntime) -> Result<(), Fail> {
+        let alloc = rt.alloc();
+        let words = words_of(alloc, "check Main")?;
+        let Line::Check { main } = &line(alloc, &words)? else {
+            assert!(rt; false);
+            return Ok(());
+        };
+        assert_eq!(rt; main.as_slice(), b"Main".as_slice());
         Ok(())
     }
 

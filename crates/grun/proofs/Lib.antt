@@ -1,5 +1,6 @@
 pub mod Finding
+pub mod NamesApart
 pub mod Spelled
 pub mod Settled
-pub mod WellWired
 pub mod Plain
+pub mod Running

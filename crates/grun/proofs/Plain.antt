@@ -5,7 +5,7 @@ use Rattle.g_fire.specs.declared.firing.Firing.{Firing}
 use Rattle.g_line.specs.declared.forms.Line.TheVariants.{Run}
 use Rattle.g_line.specs.declared.forms.Setting.{Setting}
 use Rattle.g_line.specs.Forms.{HasLine}
-use Rattle.grun.specs.Answer.{Reply, IsAnswer, usage, too_long, syntax, printed, runs}
+use Rattle.grun.specs.Answer.{Reply, IsAnswer, usage, too_long, syntax, printed, checked_broken, checked_ok, runs}
 use Rattle.grun.specs.Call.{Answers, Found, answer, fault, begins_run}
 
 abbrev pub IsNoRun : List (List ℕ) → Type 0
@@ -16,7 +16,9 @@ plain_answer words bytes trace r no_run (usage k wrong) = usage k wrong
 plain_answer words bytes trace r no_run (too_long line has long) = too_long line has long
 plain_answer words bytes trace r no_run (syntax line spot has short refused) = syntax line spot has short refused
 plain_answer words bytes trace r no_run (printed h has short is) = printed h has short is
-plain_answer words bytes trace r no_run (runs main settings h t x has short is ran) = absurd (no_run main settings has)
+plain_answer words bytes trace r no_run (checked_broken main h bs has short is lists some) = checked_broken main h bs has short is lists some
+plain_answer words bytes trace r no_run (checked_ok main h has short is unbroken) = checked_ok main h has short is unbroken
+plain_answer words bytes trace r no_run (runs main settings h t x has short is answered) = absurd (no_run main settings has)
 
 plain_answers : (words : List (List ℕ)) (left : Option (List ℕ)) (trace : Option (List Firing)) (r : Reply) → IsNoRun words → Answers words left trace r → Answers words left None r
 plain_answers words None trace r no_run is = (is.0, plain_answer words is.0 trace r no_run is.1)

@@ -1,166 +1,200 @@
 -- What settings have to be for a run.
-use Rattle.std.proofs.Common.{cond, ◌≡◌, ℕ, ◌+◌, ◌<◌, suc, Bool, Option, Some, None, true, false, not, List, [], ◌∷◌, ◌++◌, map, length, refl, ap, sym, ◌∙◌, arith}
-use Rattle.std.specs.Prelude.{bytes_eq}
-use Rattle.std.specs.List.{All, list_all, count_by}
-use Rattle.std.proofs.lemmas.Bool.{and_parts}
-use Rattle.std.proofs.lemmas.List.{length-map}
-use Rattle.std.proofs.lemmas.List.Recursion.{is_count_by}
-use Rattle.std.proofs.lemmas.List.Elements.{All-nil, All-cons}
-use Rattle.g_types.specs.declared.ty.Ty.{Ty, out-Ty}
-use Rattle.g_types.specs.declared.ty.Ty.TheOpen.{Ty-F}
-use Rattle.g_types.specs.declared.ty.Ty.TheVariants as ty
-use Rattle.g_values.specs.declared.value.Value.{Value, out-Value, map-Value, fold_out-Value}
-use Rattle.g_values.specs.declared.value.Value.TheOpen.{Value-F}
-use Rattle.g_values.specs.declared.value.Value.TheViews.{roll-Value, roll-out-Value}
-use Rattle.g_values.specs.declared.value.Value.TheVariants as value
+use Rattle.std.proofs.Common.{cond, ◌≡◌, ℕ, ◌+◌, ◌<◌, suc, Bool, Option, Some, None, true, false, List, [], ◌∷◌, ◌++◌, map, length, refl, ap, sym, ◌∙◌, subst, arith}
+use Rattle.std.specs.Prelude.{bytes_eq, slice_get, get_or, Contains, if◌then◌else◌}
+use Rattle.std.specs.List.{All}
+use Rattle.std.proofs.lemmas.List.Elements.{All-nil, All-cons, All-head, All-tail, All-append}
+use Rattle.std.proofs.lemmas.Option.{get_or_from_slice_get, slice_get_within}
+use Rattle.std.proofs.lemmas.Slice.Eq.{bytes_eq-Decides}
+use Rattle.g_types.specs.declared.ty.Ty.{Ty}
+use Rattle.g_values.specs.declared.value.Value.{Value}
 use Rattle.g_values.specs.Default.{default}
 use Rattle.g_values.specs.Proper.{IsProper}
-use Rattle.g_values.specs.Value.{type_of, type_step}
-use Rattle.g_values.proofs.DefaultValues.{type-default}
-use Rattle.g_values.proofs.ProperLemmas.{proper_num, proper_bool}
-use Rattle.g_diagram.specs.declared.panel.PanelItem.{PanelItem}
-use Rattle.g_diagram.specs.declared.panel.PanelItem.TheVariants.{Control, Indicator}
+use Rattle.g_values.specs.Spelled.{IsSpelled}
+use Rattle.g_values.specs.Typed.{IsOfType}
+use Rattle.g_values.specs.Value.{type_of}
+use Rattle.g_values.proofs.DefaultValues.{type-default, proper-default}
 use Rattle.g_diagram.specs.declared.hierarchy.Hierarchy.{Hierarchy}
 use Rattle.g_diagram.specs.declared.hierarchy.Vi.{Vi}
+use Rattle.g_diagram.specs.declared.panel.Lit.{Lit}
+use Rattle.g_diagram.specs.declared.panel.PanelItem.{PanelItem}
+use Rattle.g_diagram.specs.declared.panel.PanelItem.TheVariants.{Control, Indicator}
+use Rattle.g_diagram.specs.declared.place.Break.{Break}
+use Rattle.g_diagram.specs.declared.place.Place.{Place}
+use Rattle.g_diagram.specs.Lines.{entries_of}
+use Rattle.g_fire.specs.Flat.{AreControls}
+use Rattle.g_infer.specs.Answer.{types_in, HasTyping, IsTyped}
+use Rattle.g_infer.specs.declared.typed.Typed.{Typed}
+use Rattle.g_infer.specs.declared.typed.ViTypes.{ViTypes}
 use Rattle.g_line.specs.declared.forms.Setting.{Setting}
-use Rattle.g_scalars.specs.Names.{is_indicator}
-use Rattle.g_scalars.specs.Scalars as scalars
-use Rattle.g_scalars.specs.Scalars.{is_scalar_item, IsNumberForm}
-use Rattle.g_fire.specs.Plan.{is_scalar, is_scalar_at, AreControls}
-use Rattle.grun.specs.Settings.{Named, Given, Wrong, Right, find, spelled_as, value_for, take_setting, given_from, given, or_default, value_in, controls, control_values}
+use Rattle.g_literals.proofs.TypedValues.{typed_literal}
+use Rattle.g_row_laws.specs.Laws.{AreOfTypes}
+use Rattle.g_spelled.specs.Spelled.{IsItemSpelled, IsViSpelled}
+use Rattle.g_typing.specs.Assigned.{unassignable}
+use Rattle.g_typing.specs.Breaks.{TypeBreak, broken, breaks_with}
+use Rattle.g_typing.specs.Literals.{is_default_of, item_mistakes, panel_mistakes, nodes_mistake, mistaken}
+use Rattle.g_typing.specs.Rows.{rowless}
+use Rattle.g_typing.specs.Selected.{unselected}
+use Rattle.g_typing.specs.Types.{Types, place}
+use Rattle.g_typing.specs.Typing.{control_types, called_panel, panel_type, IsTyping}
+use Rattle.grun.specs.Ready.{IsReady}
+use Rattle.grun.specs.Settings.{Named, Given, Wrong, Right, find, spelled_as, value_for, take_setting, given_from, given, own_value, value_or, item_values, controls, control_values}
 use Rattle.grun.proofs.Finding.{or_else, find-append}
-use Rattle.grun.proofs.Spelled.{spelled_typed}
-
--- ---- numbers and Booleans
-
--- a value of a number type or bool is a number or a Boolean
-scalar_at : (v : Value) (t : Ty) (l : Value-F Value) → out-Value v ≡ l → type_of v ≡ t → scalars.is_scalar t ≡ true → is_scalar_at l ≡ true
-scalar_at v t l e typed scalar = by l (ap (λ l. type_step (map-Value Value Ty type_of l)) (sym e) ∙ sym (fold_out-Value Ty type_step v) ∙ typed)
-  where
-    other : (x : Ty) (o : Ty-F Ty) → out-Ty x ≡ o → x ≡ t → scalars.is_scalar_at o ≡ true
-    other x o p same = ap scalars.is_scalar_at (sym p) ∙ ap scalars.is_scalar same ∙ scalar
-
-    by : (l : Value-F Value) → type_step (map-Value Value Ty type_of l) ≡ t → is_scalar_at l ≡ true
-    by (Value-F.Num x) p = refl
-    by (Value-F.Bool b) p = refl
-    by (Value-F.Str s) p = let wrong = other ty.Str Ty-F.Str ty.outs-Str p in absurd cc
-    by (Value-F.Nums xs) p = let wrong = other (ty.Arr (ty.Num xs.rep)) (Ty-F.Arr (ty.Num xs.rep)) (ty.outs-Arr (ty.Num xs.rep)) p in absurd cc
-    by (Value-F.Arr xs) p = let wrong = other (ty.Arr xs.elem) (Ty-F.Arr xs.elem) (ty.outs-Arr xs.elem) p in absurd cc
-    by (Value-F.Cluster ts) p = let wrong = other (ty.Cluster _) (Ty-F.Cluster _) (ty.outs-Cluster _) p in absurd cc
-    by (Value-F.Queue r) p = let wrong = other (ty.QueueRef r.elem) (Ty-F.QueueRef r.elem) (ty.outs-QueueRef r.elem) p in absurd cc
-    by (Value-F.Cell r) p = let wrong = other (ty.ValueRef r.elem) (Ty-F.ValueRef r.elem) (ty.outs-ValueRef r.elem) p in absurd cc
-
-scalar_value : (v : Value) (t : Ty) → type_of v ≡ t → scalars.is_scalar t ≡ true → is_scalar v ≡ true
-scalar_value v t typed scalar = scalar_at v t (out-Value v) refl typed scalar
-
-proper_at : (v : Value) (l : Value-F Value) → out-Value v ≡ l → is_scalar_at l ≡ true → IsProper v
-proper_at v (Value-F.Num x) e scalar = let is : v ≡ value.Num x = sym (roll-out-Value v) ∙ ap roll-Value e ∙ value.rolls-Num x in rw (is) (proper_num x)
-proper_at v (Value-F.Bool b) e scalar = let is : v ≡ value.Bool b = sym (roll-out-Value v) ∙ ap roll-Value e ∙ value.rolls-Bool b in rw (is) (proper_bool b)
-proper_at v (Value-F.Str s) e scalar = absurd cc
-proper_at v (Value-F.Nums xs) e scalar = absurd cc
-proper_at v (Value-F.Arr xs) e scalar = absurd cc
-proper_at v (Value-F.Cluster ts) e scalar = absurd cc
-proper_at v (Value-F.Queue r) e scalar = absurd cc
-proper_at v (Value-F.Cell r) e scalar = absurd cc
-
-all_proper : (vs : List Value) → list_all is_scalar vs ≡ true → All IsProper vs
-all_proper [] h = All-nil IsProper
-all_proper (v ∷ vs) h = let parts = and_parts (is_scalar v) (list_all is_scalar vs) h in All-cons IsProper v vs (proper_at v (out-Value v) refl parts.0) (all_proper vs parts.1)
+use Rattle.grun.proofs.NamesApart.{AreFirst, left_empty, right_empty, names_apart}
+use Rattle.grun.proofs.Spelled.{spelled_typed, spelled_proper}
 
 -- ---- what settings give
 
-abbrev AreScalarTypes : Named Ty → Type 0
-AreScalarTypes cs = list_all (λ c. scalars.is_scalar c.1) cs ≡ true
+-- what is found for a control's name is a proper value of the control's type
+abbrev AreKept : Named Ty → Named Value → Type 0
+AreKept cs vs = (name : List ℕ) (v : Value) → find name vs ≡ Some v → (t : Ty) → find name cs ≡ Some t → IsOfType t v
 
-abbrev AreScalars : Named Value → Type 0
-AreScalars vs = (name : List ℕ) (v : Value) → find name vs ≡ Some v → is_scalar v ≡ true
+abbrev CanBeSpelled : Named Ty → Type 0
+CanBeSpelled cs = (name : List ℕ) (t : Ty) → find name cs ≡ Some t → IsSpelled t
 
-scalar_types : (panel : List PanelItem) → list_all is_scalar_item panel ≡ true → AreScalarTypes (controls panel)
-scalar_types [] h = refl
-scalar_types (Control name t required given out ∷ items) h =
-    let parts = and_parts (is_scalar_item (Control name t required given out)) (list_all is_scalar_item items) h in
-    let one = and_parts (scalars.is_scalar t) _ parts.0 in
-    rw (one.0) (scalar_types items parts.1)
-scalar_types (Indicator name t input ∷ items) h = scalar_types items (and_parts (is_scalar_item (Indicator name t input)) (list_all is_scalar_item items) h).1
-
-found_scalar : (cs : Named Ty) → AreScalarTypes cs → (name : List ℕ) (t : Ty) → find name cs ≡ Some t → scalars.is_scalar t ≡ true
-found_scalar [] all name t e = absurd cc
-found_scalar (c ∷ cs) all name t e = by (bytes_eq name c.0) e (and_parts (scalars.is_scalar c.1) (list_all (λ c. scalars.is_scalar c.1) cs) all) (found_scalar cs (and_parts (scalars.is_scalar c.1) (list_all (λ c. scalars.is_scalar c.1) cs) all).1 name t)
+types_spelled : (panel : List PanelItem) → All IsItemSpelled panel → CanBeSpelled (controls panel)
+types_spelled [] all name t e = absurd cc
+types_spelled (Control other u required own out ∷ items) all name t e =
+    by (bytes_eq name other) e (All-head IsItemSpelled (Control other u required own out) items all)
+    (types_spelled items (All-tail IsItemSpelled (Control other u required own out) items all) name t)
   where
-    by : (b : Bool) → cond b (Some c.1) (find name cs) ≡ Some t → (scalars.is_scalar c.1 ≡ true) × (list_all (λ c. scalars.is_scalar c.1) cs ≡ true) → (find name cs ≡ Some t → scalars.is_scalar t ≡ true) → scalars.is_scalar t ≡ true
-    by true e parts more = let is : c.1 ≡ t = cc in ap scalars.is_scalar (sym is) ∙ parts.0
-    by false e parts more = more e
+    by : (b : Bool) → cond b (Some u) (find name (controls items)) ≡ Some t → IsSpelled u → (find name (controls items) ≡ Some t → IsSpelled t) → IsSpelled t
+    by true e spelled more = let is : u ≡ t = cc in subst IsSpelled is spelled
+    by false e spelled more = more e
+types_spelled (Indicator other u input ∷ items) all name t e = types_spelled items (All-tail IsItemSpelled (Indicator other u input) items all) name t e
 
-setting_scalar : (cs : Named Ty) → AreScalarTypes cs → (s : Setting) (v : Value) → value_for cs s ≡ Some v → is_scalar v ≡ true
-setting_scalar cs all s v e = by (find s.name cs) refl
+setting_kept : (cs : Named Ty) → CanBeSpelled cs → (s : Setting) (v : Value) → value_for cs s ≡ Some v → (t : Ty) → find s.name cs ≡ Some t → IsOfType t v
+setting_kept cs all s v e t at =
+    let is = sym (ap (λ o. spelled_as o s.text) at) ∙ e in
+    record { proper = spelled_proper t s.text v is (all s.name t at); of_type = spelled_typed t s.text v is }
+
+one_more : (cs : Named Ty) (vs : Named Value) → AreKept cs vs → (key : List ℕ) (w : Value) → ((t : Ty) → find key cs ≡ Some t → IsOfType t w) → AreKept cs (vs ++ (key, w) ∷ [])
+one_more cs vs all key w kept name v e t at = by (find name vs) refl (bytes_eq name key) refl (sym (find-append name vs ((key, w) ∷ [])) ∙ e)
   where
-    by : (o : Option Ty) → find s.name cs ≡ o → is_scalar v ≡ true
-    by None p = let wrong : None ≡ Some v = sym (ap (λ o. spelled_as o s.text) p) ∙ e in absurd cc
-    by (Some t) p = scalar_value v t (spelled_typed t s.text v (sym (ap (λ o. spelled_as o s.text) p) ∙ e)) (found_scalar cs all s.name t p)
+    by : (o : Option Value) → find name vs ≡ o → (b : Bool) → bytes_eq name key ≡ b → or_else (find name vs) (cond b (Some w) None) ≡ Some v → IsOfType t v
+    by (Some u) p b q e = let is : Some u ≡ Some v = ap (λ o. or_else o (cond b (Some w) None)) (sym p) ∙ e in all name v (p ∙ is) t at
+    by None p true q e =
+        let is : Some w ≡ Some v = ap (λ o. or_else o (Some w)) (sym p) ∙ e in
+        let same : w ≡ v = cc in
+        let named : name ≡ key = (bytes_eq-Decides name key).0 q in
+        subst (IsOfType t) same (kept t (ap (λ n. find n cs) (sym named) ∙ at))
+    by None p false q e = let is : None ≡ Some v = ap (λ o. or_else o None) (sym p) ∙ e in absurd cc
 
-one_more : (vs : Named Value) → AreScalars vs → (key : List ℕ) (w : Value) → is_scalar w ≡ true → AreScalars (vs ++ (key, w) ∷ [])
-one_more vs all key w scalar name v e = by (find name vs) refl (bytes_eq name key) (sym (find-append name vs ((key, w) ∷ [])) ∙ e)
-  where
-    by : (o : Option Value) → find name vs ≡ o → (b : Bool) → or_else (find name vs) (cond b (Some w) None) ≡ Some v → is_scalar v ≡ true
-    by (Some u) p b e = let is : Some u ≡ Some v = ap (λ o. or_else o (cond b (Some w) None)) (sym p) ∙ e in all name v (p ∙ is)
-    by None p true e = let is : Some w ≡ Some v = ap (λ o. or_else o (Some w)) (sym p) ∙ e in let same : w ≡ v = cc in ap is_scalar (sym same) ∙ scalar
-    by None p false e = let is : None ≡ Some v = ap (λ o. or_else o None) (sym p) ∙ e in absurd cc
-
-right_scalars : (cs : Named Ty) → AreScalarTypes cs → (before : Named Value) → AreScalars before → (k : ℕ) (ss : List Setting) (vs : Named Value) → given_from cs before k ss ≡ Right vs → AreScalars vs
-right_scalars cs all before are k [] vs e = let same : before ≡ vs = cc in rw (sym same) are
-right_scalars cs all before are k (s ∷ ss) vs e =
-    by (value_for cs s) (find s.name before) refl e (λ v is. right_scalars cs all (before ++ (s.name, v) ∷ []) (one_more before are s.name v is) (k + 1) ss vs)
+right_kept : (cs : Named Ty) → CanBeSpelled cs → (before : Named Value) → AreKept cs before → (k : ℕ) (ss : List Setting) (vs : Named Value) → given_from cs before k ss ≡ Right vs → AreKept cs vs
+right_kept cs all before are k [] vs e = let same : before ≡ vs = cc in subst (AreKept cs) same are
+right_kept cs all before are k (s ∷ ss) vs e =
+    by (value_for cs s) (find s.name before) refl e (λ v is. right_kept cs all (before ++ (s.name, v) ∷ []) (one_more cs before are s.name v is) (k + 1) ss vs)
   where
     next : Value → Given
     next v = given_from cs (before ++ (s.name, v) ∷ []) (k + 1) ss
 
-    by : (o held : Option Value) → value_for cs s ≡ o → take_setting o held next k ≡ Right vs → ((v : Value) → is_scalar v ≡ true → next v ≡ Right vs → AreScalars vs) → AreScalars vs
+    by : (o held : Option Value) → value_for cs s ≡ o → take_setting o held next k ≡ Right vs
+        → ((v : Value) → ((t : Ty) → find s.name cs ≡ Some t → IsOfType t v) → next v ≡ Right vs → AreKept cs vs) → AreKept cs vs
     by None held p e more = absurd cc
     by (Some v) (Some w) p e more = absurd cc
-    by (Some v) None p e more = more v (setting_scalar cs all s v p) e
+    by (Some v) None p e more = more v (setting_kept cs all s v p) e
+
+none_kept : (cs : Named Ty) → AreKept cs []
+none_kept cs name v e t at = absurd cc
 
 -- ---- the values of controls
 
-control_scalar : (vs : Named Value) → AreScalars vs → (c : List ℕ × Ty) → scalars.is_scalar c.1 ≡ true → is_scalar (value_in vs c) ≡ true
-control_scalar vs are c scalar = by (find c.0 vs) refl
+own_kept : (t : Ty) (literal : Option Lit) → IsSpelled t → is_default_of literal t ≡ true → IsOfType t (own_value t literal)
+own_kept t None spelled right = record { proper = proper-default t spelled; of_type = type-default t }
+own_kept t (Some literal) spelled right = typed_literal literal t right spelled
+
+one_kept : (cs : Named Ty) (vs : Named Value) → AreKept cs vs → (name : List ℕ) (t : Ty) (own : Value) → find name cs ≡ Some t → IsOfType t own → IsOfType t (value_or own (find name vs))
+one_kept cs vs are name t own at kept = by (find name vs) refl
   where
-    by : (o : Option Value) → find c.0 vs ≡ o → is_scalar (or_default c.1 o) ≡ true
-    by None p = scalar_value (default c.1) c.1 (type-default c.1) scalar
-    by (Some v) p = are c.0 v p
+    by : (o : Option Value) → find name vs ≡ o → IsOfType t (value_or own o)
+    by None p = kept
+    by (Some v) p = are name v p t at
 
-values_scalar : (vs : Named Value) → AreScalars vs → (cs : Named Ty) → AreScalarTypes cs → list_all is_scalar (map (value_in vs) cs) ≡ true
-values_scalar vs are [] all = refl
-values_scalar vs are (c ∷ cs) all =
-    let parts = and_parts (scalars.is_scalar c.1) (list_all (λ c. scalars.is_scalar c.1) cs) all in
-    rw (control_scalar vs are c parts.0, values_scalar vs are cs parts.1) refl
-
-none_given : AreScalars []
-none_given name v e = absurd cc
-
-pub controls_scalar : (panel : List PanelItem) (settings : List Setting) (vs : Named Value) → list_all is_scalar_item panel ≡ true → given panel settings ≡ Right vs → list_all is_scalar (control_values panel vs) ≡ true
-controls_scalar panel settings vs h e =
-    let all = scalar_types panel h in
-    values_scalar vs (right_scalars (controls panel) all [] none_given 0 settings vs e) (controls panel) all
-
-pub controls_proper : (panel : List PanelItem) (settings : List Setting) (vs : Named Value) → list_all is_scalar_item panel ≡ true → given panel settings ≡ Right vs → All IsProper (control_values panel vs)
-controls_proper panel settings vs h e = all_proper (control_values panel vs) (controls_scalar panel settings vs h e)
-
-step_controls : (x : PanelItem) (xs : List PanelItem) → length (controls (x ∷ xs)) ≡ cond (not (is_indicator x)) (1 + length (controls xs)) (length (controls xs))
-step_controls (Control name t required given out) xs = omega (arith)
-step_controls (Indicator name t input) xs = refl
-
-count_controls : (items : List PanelItem) → length (controls items) ≡ count_by (λ item. not (is_indicator item)) items
-count_controls items = is_count_by (λ (items : List PanelItem). length (controls items)) (λ item. not (is_indicator item)) refl step_controls items
-
-only_vi : (vi other : Vi) → vi ∷ [] ≡ other ∷ [] → vi ≡ other
-only_vi vi other e = cc
-
-pub controls_right : (h : Hierarchy) (form : IsNumberForm h) (settings : List Setting) (vs : Named Value) → given form.vi.panel settings ≡ Right vs → AreControls h (control_values form.vi.panel vs)
-controls_right h form settings vs e = record {
-  scalars = controls_scalar form.vi.panel settings vs form.form.panel e;
-  each = λ other one. length-map (controls form.vi.panel) (value_in vs) ∙ count_controls form.vi.panel
-      ∙ ap (λ (v : Vi). count_by (λ item. not (is_indicator item)) v.panel) (only_vi form.vi other (sym form.one ∙ one));
+one_before : (t : Ty) (v : Value) (ts : List Ty) (vs : List Value) → IsOfType t v → AreOfTypes ts vs → AreOfTypes (t ∷ ts) (v ∷ vs)
+one_before t v ts vs first more = record {
+  proper = All-cons IsProper v vs first.proper more.proper;
+  of_types = ap (λ u. u ∷ map type_of vs) first.of_type ∙ ap (λ us. t ∷ us) more.of_types;
 }
+
+is_right : (b : Bool) (v l : ℕ) → (if b then [] else place v l 0 ∷ []) ≡ [] → b ≡ true
+is_right true v l e = refl
+is_right false v l e = absurd cc
+
+values_right : (cs : Named Ty) (vs : Named Value) → AreKept cs vs → (panel items : List PanelItem) → cs ≡ controls panel → AreFirst panel items → All IsItemSpelled items
+    → (v l : ℕ) → panel_mistakes v l items ≡ [] → AreOfTypes (control_types items) (control_values items vs)
+values_right cs vs are panel [] same first all v l right = record { proper = All-nil IsProper; of_types = refl }
+values_right cs vs are panel (Control name t required literal out ∷ items) same first all v l right =
+    let item = Control name t required literal out in
+    let here = item_mistakes v l item in
+    let rest = panel_mistakes v (l + 1) items in
+    one_before t (value_or (own_value t literal) (find name vs)) (control_types items) (control_values items vs)
+    (one_kept cs vs are name t (own_value t literal) (ap (find name) same ∙ first.0)
+    (own_kept t literal (All-head IsItemSpelled item items all) (is_right (is_default_of literal t) v l (left_empty here rest right))))
+    (values_right cs vs are panel items same first.1 (All-tail IsItemSpelled item items all) v (l + 1) (right_empty here rest right))
+values_right cs vs are panel (Indicator name t input ∷ items) same first all v l right =
+    values_right cs vs are panel items same first.1 (All-tail IsItemSpelled (Indicator name t input) items all) v (l + 1) right
+
+-- the values are proper and of the controls' types, where the types can be spelled, names differ and literals are values of their types
+pub panel_right : (panel : List PanelItem) → AreFirst panel panel → All IsItemSpelled panel → (v : ℕ) → panel_mistakes v 1 panel ≡ []
+    → (settings : List Setting) (vs : Named Value) → given panel settings ≡ Right vs → AreOfTypes (control_types panel) (control_values panel vs)
+panel_right panel first all v right settings vs e =
+    let cs = controls panel in
+    values_right cs vs (right_kept cs (types_spelled panel all) [] (none_kept cs) 0 settings vs e) panel panel refl first all v 1 right
+
+-- ---- where no rule is broken, literals are values of their types
+
+-- mistakes of a panel are told of its VI
+mistakes_of : (v l : ℕ) (items : List PanelItem) → All (λ (p : Place). p.vi ≡ v) (panel_mistakes v l items)
+mistakes_of v l [] = All-nil (λ (p : Place). p.vi ≡ v)
+mistakes_of v l (item ∷ items) = All-append (λ (p : Place). p.vi ≡ v) (item_mistakes v l item) (panel_mistakes v (l + 1) items) (here item) (mistakes_of v (l + 1) items)
+  where
+    one : (b : Bool) → All (λ (p : Place). p.vi ≡ v) (if b then [] else place v l 0 ∷ [])
+    one true = All-nil (λ (p : Place). p.vi ≡ v)
+    one false = All-cons (λ (p : Place). p.vi ≡ v) (place v l 0) [] refl (All-nil (λ (p : Place). p.vi ≡ v))
+
+    here : (item : PanelItem) → All (λ (p : Place). p.vi ≡ v) (item_mistakes v l item)
+    here (Control name t required literal out) = one (is_default_of literal t)
+    here (Indicator name t input) = All-nil (λ (p : Place). p.vi ≡ v)
+
+-- the breaks of rules 16 to 18 of a VI
+abbrev other_breaks : Hierarchy → Types → (number : ℕ) → Vi → List Break
+other_breaks h types number vi =
+    map (broken 16) (rowless types number (entries_of vi))
+    ++ (map (broken 17) (unassignable (called_panel h.vis) (panel_type vi.panel) types number (entries_of vi)) ++ map (broken 18) (unselected types number (entries_of vi)))
+
+told_first : (p : Place) (ps all : List Place) (others : List Break) → all ≡ p ∷ ps → Contains (map (broken 15) all ++ others) (broken 15 p)
+told_first p ps all others e = subst (λ xs. Contains (map (broken 15) xs ++ others) (broken 15 p)) (sym e) (0, omega arith, refl)
+
+no_mistake : (h : Hierarchy) (number : ℕ) (vi : Vi) → slice_get h.vis number ≡ Some vi → (types : Types) → IsTyping h.vis vi types → ((b : Break) → TypeBreak h b → ⊥)
+    → (ps more : List Place) → All (λ (p : Place). p.vi ≡ number) ps → mistaken types number vi.panel (entries_of vi) ≡ ps ++ more → ps ≡ []
+no_mistake h number vi stands types typing none [] more all e = refl
+no_mistake h number vi stands types typing none (p ∷ ps) more all e =
+    let same : p.vi ≡ number = All-head (λ (p : Place). p.vi ≡ number) p ps all in
+    absurd (none (broken 15 p) (record {
+      vi = vi;
+      stands = ap (slice_get h.vis) same ∙ stands;
+      types = types;
+      typing = typing;
+      is_broken = subst (λ n. Contains (breaks_with (called_panel h.vis) vi.panel types n (entries_of vi)) (broken 15 p)) (sym same)
+          (told_first p (ps ++ more) (mistaken types number vi.panel (entries_of vi)) (other_breaks h types number vi) e);
+    }))
+
+right_literals : (h : Hierarchy) (typed : Typed) → IsTyped h typed → (number : ℕ) (vi : Vi) → slice_get h.vis number ≡ Some vi → panel_mistakes number 1 vi.panel ≡ []
+right_literals h typed types number vi stands = by (slice_get typed.vis number) (types.each number vi stands)
+  where
+    by : (o : Option ViTypes) → HasTyping h.vis vi o → panel_mistakes number 1 vi.panel ≡ []
+    by None none = absurd none
+    by (Some found) is =
+        no_mistake h number vi stands (types_in found.sources) is.typing types.unbroken (panel_mistakes number 1 vi.panel)
+        (nodes_mistake (types_in found.sources) number (entries_of vi)) (mistakes_of number 1 vi.panel) refl
+
+pub controls_right : (h : Hierarchy) (main : List ℕ) (number : ℕ) → IsReady h main number → (vi : Vi) → slice_get h.vis number ≡ Some vi → (settings : List Setting) (vs : Named Value) → given vi.panel settings ≡ Right vs
+    → AreControls h number (control_values vi.panel vs)
+controls_right h main number ready vi stands settings vs e other at =
+    let same : Some vi ≡ Some other = sym stands ∙ at in
+    let is : vi ≡ other = cc in
+    let spelled : IsViSpelled vi = subst IsViSpelled (get_or_from_slice_get h.vis number vi vi stands) (ready.spelled number vi (slice_get_within h.vis number vi stands)) in
+    subst (λ (v : Vi). AreOfTypes (control_types v.panel) (control_values vi.panel vs)) is
+    (panel_right vi.panel (names_apart h main ready.unbroken.wired number vi stands) spelled.panel number (right_literals h ready.typed ready.types number vi stands) settings vs e)
 
 -- a wrong setting is one of those that were gone through
 step_within : (next : Value → Given) (value held : Option Value) (k m rest : ℕ) → ((v : Value) → next v ≡ Wrong m → m < (k + 1) + rest) → take_setting value held next k ≡ Wrong m → m < k + suc rest

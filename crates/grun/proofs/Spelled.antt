@@ -8,7 +8,9 @@ use Rattle.g_values.specs.declared.value.Value.{Value}
 use Rattle.g_values.specs.Value.{type_of}
 use Rattle.g_valtext.specs.Spellings.{IsSpelling, IsNotOfType, tokens, values}
 use Rattle.g_valtext.proofs.Exact.{spelled_by}
-use Rattle.g_valtext.proofs.Kept.{typed}
+use Rattle.g_valtext.proofs.Kept.{typed, proper}
+use Rattle.g_values.specs.Proper.{IsProper}
+use Rattle.g_values.specs.Spelled.{IsSpelled}
 use Rattle.grun.specs.Settings.{value_read, spelled_value}
 
 pub spelled_is : (t : Ty) (text : List ℕ) (v : Value) → IsSpelling t text v → spelled_value t text ≡ Some v
@@ -36,4 +38,14 @@ spelled_typed t text v same = by (all_read (read (values t) (tokens text))) refl
   where
     by : (r : Result Value (List Token)) → all_read (read (values t) (tokens text)) ≡ r → type_of v ≡ t
     by (Ok w) e = let is : Some w ≡ Some v = ap value_read (sym e) ∙ same in let kept : w ≡ v = cc in typed t (tokens text) v (spelling_of t text v (e ∙ ap Ok kept))
+    by (Err rest) e = let is : None ≡ Some v = ap value_read (sym e) ∙ same in absurd cc
+
+-- and is proper, where the type can be spelled
+pub spelled_proper : (t : Ty) (text : List ℕ) (v : Value) → spelled_value t text ≡ Some v → IsSpelled t → IsProper v
+spelled_proper t text v same spelled = by (all_read (read (values t) (tokens text))) refl
+  where
+    by : (r : Result Value (List Token)) → all_read (read (values t) (tokens text)) ≡ r → IsProper v
+    by (Ok w) e =
+        let is : Some w ≡ Some v = ap value_read (sym e) ∙ same in
+        let kept : w ≡ v = cc in proper t (tokens text) v (spelling_of t text v (e ∙ ap Ok kept)) spelled
     by (Err rest) e = let is : None ≡ Some v = ap value_read (sym e) ∙ same in absurd cc

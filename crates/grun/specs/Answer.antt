@@ -11,11 +11,13 @@ use Rattle.g_listing.specs.Refusal.{IsRefusal}
 use Rattle.g_listing.specs.declared.listing.ListingRefused.TheVariants.{Syntax}
 use Rattle.g_line.specs.declared.forms.Setting.{Setting}
 use Rattle.g_line.specs.declared.forms.Line.{Line}
-use Rattle.g_line.specs.declared.forms.Line.TheVariants.{Run, Print}
+use Rattle.g_line.specs.declared.forms.Line.TheVariants.{Run, Check, Print}
 use Rattle.g_line.specs.Forms.{HasLine}
 use Rattle.g_line.specs.Usage.{IsFirstWrong}
-use Rattle.g_wires.specs.Breaks.{IsWiring}
-use Rattle.g_scalars.specs.Scalars.{IsNumberForm, IsTyped}
+use Rattle.g_wires.specs.Breaks.{ListsEach}
+use Rattle.g_check.specs.Checked.{IsBreak, IsUnbroken}
+use Rattle.g_hier.specs.Outlines.{number_of}
+use Rattle.g_plain.specs.Plain.{IsPlain}
 use Rattle.g_fire.specs.declared.firing.Firing.{Firing}
 use Rattle.g_fire.specs.declared.state.FireState.{FireState}
 use Rattle.g_fire.specs.Program.{program}
@@ -38,29 +40,27 @@ LIMIT = 16_777_216
 
 -- ---- the answer
 
--- a run with these values of the controls: its trace is allowed and leads to a state in which no node can fire and each was fired; the reply
--- shows that state
-pub record Runs (h : Hierarchy) (controls : List Value) (trace : List Firing) (r : Reply) : Type 0 where
+-- a run of the VI of this number with these values of its controls: its trace is allowed and leads to a state in which no node can fire and
+-- each was fired; the reply shows that state
+pub record Runs (h : Hierarchy) (main : ℕ) (controls : List Value) (trace : List Firing) (r : Reply) : Type 0 where
   pub state : FireState
-  pub allowed : after (program h) controls trace ≡ Some state
-  pub rest : IsAtRest (program h) state
-  pub complete : end_of (program h) state ≡ Complete
-  pub shown : r ≡ reply 0 (print (program h) state)
+  pub allowed : after (program h main) controls trace ≡ Some state
+  pub rest : IsAtRest (program h main) state
+  pub complete : end_of (program h main) state ≡ Complete
+  pub shown : r ≡ reply 0 (print (program h main) state)
 
 -- the answer to a run of a hierarchy
 pub data IsRunAnswer (main : List ℕ) (settings : List Setting) (h : Hierarchy) : Option (List Firing) → Reply → Type 0 where
-  -- it has lines of another form than those that run, or uses names otherwise
-  other_form : (IsNumberForm h → ⊥) → IsRunAnswer main settings h None (reply 12 (line_of (codes "not built")))
   -- rules are broken: the whole list
-  broken : (bs : List Break) → IsNumberForm h → IsWiring h main bs → bs ≢ [] → IsRunAnswer main settings h None (reply 3 (breaks_text main h.vis bs))
-  -- its wires have no types that this form allows
-  untyped : (form : IsNumberForm h) → IsWiring h main [] → (IsTyped form.vi → ⊥) → IsRunAnswer main settings h None (reply 12 (line_of (codes "not built")))
+  broken : (bs : List Break) → ListsEach (IsBreak h main) bs → bs ≢ [] → IsRunAnswer main settings h None (reply 3 (breaks_text main h.vis bs))
+  -- MAIN has other nodes than those that run
+  other_form : IsUnbroken h main → (IsPlain h (number_of h.vis main) → ⊥) → IsRunAnswer main settings h None (reply 12 (line_of (codes "not built")))
   -- a setting names no control, or one that was named before, or has no value of its type
-  control : (form : IsNumberForm h) (k : ℕ) → IsWiring h main [] → IsTyped form.vi → given form.vi.panel settings ≡ Wrong k
+  control : (plain : IsPlain h (number_of h.vis main)) (k : ℕ) → IsUnbroken h main → given plain.vi.panel settings ≡ Wrong k
       → IsRunAnswer main settings h None (reply 4 (line_of (codes "control at word " ++ decimal (k + 3))))
   -- a run
-  ran : (form : IsNumberForm h) (values : Named Value) (trace : List Firing) (r : Reply) → IsWiring h main [] → IsTyped form.vi → given form.vi.panel settings ≡ Right values
-      → Runs h (control_values form.vi.panel values) trace r → IsRunAnswer main settings h (Some trace) r
+  ran : (plain : IsPlain h (number_of h.vis main)) (values : Named Value) (trace : List Firing) (r : Reply) → IsUnbroken h main → given plain.vi.panel settings ≡ Right values
+      → Runs h (number_of h.vis main) (control_values plain.vi.panel values) trace r → IsRunAnswer main settings h (Some trace) r
 
 -- the answer to words and bytes
 pub data IsAnswer (words : List (List ℕ)) (bytes : List ℕ) : Option (List Firing) → Reply → Type 0 where
@@ -72,6 +72,10 @@ pub data IsAnswer (words : List (List ℕ)) (bytes : List ℕ) : Option (List Fi
   syntax : (line : Line) (spot : Spot) → HasLine words line → length bytes ≤ LIMIT → IsRefusal bytes (Syntax spot) → IsAnswer words bytes None (reply 2 (line_of (codes "syntax at " ++ spot_text spot)))
   -- they are one, which is printed
   printed : (h : Hierarchy) → HasLine words Print → length bytes ≤ LIMIT → IsListing bytes h → IsAnswer words bytes None (reply 0 (text_of h))
+  -- they are one, which is checked: rules are broken, or none is
+  checked_broken : (main : List ℕ) (h : Hierarchy) (bs : List Break) → HasLine words (Check main) → length bytes ≤ LIMIT → IsListing bytes h → ListsEach (IsBreak h main) bs → bs ≢ []
+      → IsAnswer words bytes None (reply 3 (breaks_text main h.vis bs))
+  checked_ok : (main : List ℕ) (h : Hierarchy) → HasLine words (Check main) → length bytes ≤ LIMIT → IsListing bytes h → IsUnbroken h main → IsAnswer words bytes None (reply 0 (line_of (codes "ok")))
   -- they are one, which is run
   runs : (main : List ℕ) (settings : List Setting) (h : Hierarchy) (trace : Option (List Firing)) (r : Reply) → HasLine words (Run main settings) → length bytes ≤ LIMIT → IsListing bytes h → IsRunAnswer main settings h trace r
       → IsAnswer words bytes trace r

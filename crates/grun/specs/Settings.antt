@@ -1,12 +1,14 @@
 -- What settings say of controls: each names a control that no setting before it named, and has a value of its type; a control that none
--- names has the default of its type.
+-- names has the literal that stands on its line, or the default of its type.
 use Rattle.std.specs.Prelude.{ℕ, ◌+◌, List, [], ◌∷◌, ◌++◌, map, bytes_eq, Option, Some, None, Result, Ok, Err, if◌then◌else◌}
 use Rattle.g_grammar.specs.Grammar.{all_read, read}
 use Rattle.g_tokens.specs.declared.token.Token.{Token}
 use Rattle.g_types.specs.declared.ty.Ty.{Ty}
 use Rattle.g_values.specs.declared.value.Value.{Value}
 use Rattle.g_values.specs.Default.{default}
+use Rattle.g_literals.specs.Values.{literal_value}
 use Rattle.g_valtext.specs.Spellings.{values, tokens}
+use Rattle.g_diagram.specs.declared.panel.Lit.{Lit}
 use Rattle.g_diagram.specs.declared.panel.PanelItem.{PanelItem}
 use Rattle.g_diagram.specs.declared.panel.PanelItem.TheVariants.{Control, Indicator}
 use Rattle.g_line.specs.declared.forms.Setting.{Setting}
@@ -61,14 +63,20 @@ given_from cs before k (s ∷ ss) =
 abbrev pub given : List PanelItem → List Setting → Given
 given panel settings = given_from (controls panel) [] 0 settings
 
-abbrev pub or_default : Ty → Option Value → Value
-or_default t None = default t
-or_default t (Some v) = v
+-- the value of a control that no setting names: the literal that stands on its line, else the default of its type
+abbrev pub own_value : Ty → Option Lit → Value
+own_value t None = default t
+own_value t (Some literal) = literal_value literal t
 
--- the value of a control of this name and type
-abbrev pub value_in : Named Value → List ℕ × Ty → Value
-value_in values c = or_default c.1 (find c.0 values)
+abbrev pub value_or : (own : Value) → Option Value → Value
+value_or own None = own
+value_or own (Some v) = v
+
+abbrev pub item_values : Named Value → PanelItem → List Value
+item_values values (Control name t required literal out) = value_or (own_value t literal) (find name values) ∷ []
+item_values values (Indicator name t input) = []
 
 -- the values of the controls, in listing order
 abbrev pub control_values : List PanelItem → Named Value → List Value
-control_values panel values = map (value_in values) (controls panel)
+control_values [] values = []
+control_values (item ∷ items) values = item_values values item ++ control_values items values

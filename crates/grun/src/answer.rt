@@ -1,26 +1,31 @@
 //! The answer to a line and a listing.
 
-ghost use Rattle.std.specs.Prelude.{◌≡◌, ◌<◌, ◌≤◌, ◌+◌, [], List as Row, ℕ, Some, None, length, IfOk, codes};
+ghost use Rattle.std.specs.Prelude.{◌≡◌, ◌<◌, ◌≤◌, ◌+◌, List as Row, ℕ, Some, None, length, slice_get, IfOk, codes};
+ghost use Rattle.g_line.specs.declared.forms.Line.TheVariants.{Check as CheckLine};
 ghost use Rattle.g_line.specs.Forms.{HasLine};
 ghost use Rattle.g_fire.specs.declared.firing.Firing.{Firing};
-ghost use Rattle.g_fire.specs.Plan.{AreControls};
-ghost use Rattle.g_scalars.specs.Scalars.{IsNumberForm, IsTyped};
-ghost use Rattle.g_wires.specs.Breaks.{IsWiring};
-ghost use Rattle.grun.specs.Texts.{line_of};
+ghost use Rattle.g_fire.specs.Flat.{AreControls};
+ghost use Rattle.g_plain.specs.Plain.{IsPlain};
+ghost use Rattle.g_spelled.specs.Spelled.{AreSpelled};
+ghost use Rattle.g_syntax.specs.Listing.{IsListing};
+ghost use Rattle.grun.specs.Texts.{line_of, breaks_text};
+ghost use Rattle.grun.specs.Ready.{IsReady};
 ghost use Rattle.grun.specs.Answer.{reply, Runs, IsRunAnswer, IsAnswer, LIMIT as MOST};
 
 use crate::settings::{Given, controls, go_through, values};
 use crate::texts::{Names, breaks_text, fixed, numbered, placed};
-use g_diagram::Hierarchy;
-use g_fire::{Trace, run_all, state_text};
+use g_check::check::{Checked, check};
+use g_diagram::{Break, Hierarchy, Vi};
+use g_fire::{Trace, run_all, run_laws, state_text};
+use g_hier::Linked;
 use g_line::{Line, Setting};
 use g_listing::{ListingRefused, read_listing};
 use g_lists::List;
+use g_plain::{is_plain, plain_laws};
 use g_print::print_listing;
-use g_scalars::{is_number_form, is_typed};
+use g_spelled::spelled_laws;
 use g_types::{Bytes, Name};
 use g_values::ValueList;
-use g_wires::wiring;
 use std::alloc::{AllocError, Global};
 
 /// What is answered: a status, a text, and the firings of a run.
@@ -31,15 +36,23 @@ pub(crate) struct Answer {
     pub trace: Option<Trace>,
 }
 
-/// Runs a hierarchy whose rules are unbroken. Each of its nodes fires, so the run is complete.
-fn run(alloc: Global, h: &Hierarchy, main: &Name, controls: ValueList) -> Result<Answer, AllocError>
-    requires form { IsNumberForm h.now }
-    requires controls { AreControls h.now controls }
-    requires sound { IsWiring h.now main.now [] }
-    ensures { IfOk result (λ answer. (trace : Row Firing) × (answer.trace ≡ Some trace) × Runs h.now controls trace (reply answer.status answer.text)) }
+/// Runs a hierarchy that keeps all rules and whose main VI is plain. Each of its nodes fires, so the run
+/// is complete.
+fn run(
+    alloc: Global,
+    h: &Hierarchy,
+    main: &Name,
+    linked: &Linked,
+    controls: ValueList,
+) -> Result<Answer, AllocError>
+    requires ready { IsReady h.now main.now linked.now.main }
+    requires controls { AreControls h.now linked.now.main controls }
+    ensures { IfOk result (λ answer. (trace : Row Firing) × (answer.trace ≡ Some trace) × Runs h.now linked.now.main controls trace (reply answer.status answer.text)) }
 {
-    let ran = run_all(alloc, h, controls)?;
-    let text = state_text(alloc, h, &ran.state)?;
+    plain_laws();
+    run_laws();
+    let ran = run_all(alloc, h, linked, controls)?;
+    let text = state_text(alloc, h, linked, &ran.state)?;
     Ok(Answer {
         status: 0,
         text,
@@ -67,27 +80,41 @@ fn word_of(place: usize, _settings: &[Setting]) -> u64
     place as u64 + 3
 }
 
-/// The answer for settings, where no rule is broken and the wires have types.
-fn answer_settings(
+/// The main VI.
+fn main_vi(h: &Hierarchy, main: u32) -> &Vi
+    requires { IsPlain h.now main }
+    ensures { slice_get h.now.vis main ≡ Some result.now }
+{
+    &h.vis.as_slice()[main as usize]
+}
+
+/// The answer for settings, where no rule is broken and the main VI is plain.
+fn answer_settings<'a>(
     alloc: Global,
-    h: &Hierarchy,
+    h: &'a Hierarchy,
     main: &Name,
-    settings: &[Setting],
+    linked: &Linked,
+    settings: &'a [Setting],
 ) -> Result<Answer, AllocError>
-    requires form { IsNumberForm h.now }
-    requires sound { IsWiring h.now main.now [] }
-    requires typed { (form : IsNumberForm h.now) → IsTyped form.vi }
+    requires { IsReady h.now main.now linked.now.main }
     ensures { IfOk result (λ answer. IsRunAnswer main.now settings.now h.now answer.trace (reply answer.status answer.text)) }
 {
-    let controls = controls(alloc, h.vis.as_slice()[0].panel.as_slice())?;
+    let panel = main_vi(h, linked.main).panel.as_slice();
+    let controls = controls(alloc, panel)?;
     match go_through(alloc, &controls, settings)? {
         Given::Wrong(place) => {
             let text = numbered(alloc, b"control at word ", word_of(place, settings))?;
             Ok(plain(4, text))
         }
         Given::Right(given) => {
-            let values = values(alloc, &controls, &given)?;
-            run(alloc, h, main, ValueList::from_list(List::from_vec(values)))
+            let values = values(alloc, panel, &given)?;
+            run(
+                alloc,
+                h,
+                main,
+                linked,
+                ValueList::from_list(List::from_vec(values)),
+            )
         }
     }
 }
@@ -98,31 +125,50 @@ fn not_built(alloc: Global) -> Result<Answer, AllocError>
     Ok(plain(12, fixed(alloc, b"not built")?))
 }
 
-/// The answer to a run of a hierarchy: first its form, then the rules, then the types of its wires, and
-/// then the settings.
+/// The answer that lists breaks.
+fn answer_breaks(
+    alloc: Global,
+    h: &Hierarchy,
+    main: &Name,
+    breaks: &[Break],
+) -> Result<Answer, AllocError>
+    ensures { IfOk result (λ answer. (answer.trace ≡ None) × (reply answer.status answer.text ≡ reply 3 (breaks_text main.now h.now.vis breaks.now))) }
+{
+    let names = Names {
+        main,
+        vis: h.vis.as_slice(),
+    };
+    Ok(plain(3, breaks_text(alloc, &names, breaks)?))
+}
+
+/// The answer to a run of a hierarchy: first the rules, then its form, and then the settings.
 fn answer_run(
     alloc: Global,
     h: &Hierarchy,
     main: &Name,
     settings: &[Setting],
 ) -> Result<Answer, AllocError>
+    requires { AreSpelled h.now }
     ensures { IfOk result (λ answer. IsRunAnswer main.now settings.now h.now answer.trace (reply answer.status answer.text)) }
 {
-    if !is_number_form(alloc, h)? {
+    let linked = match check(alloc, h, main)? {
+        Checked::Broken(breaks) => return answer_breaks(alloc, h, main, breaks.as_slice()),
+        Checked::Unbroken(_, linked) => linked,
+    };
+    if !is_plain(h, linked.main) {
         return not_built(alloc);
     }
-    let breaks = wiring(alloc, h, main)?;
-    if !breaks.is_empty() {
-        let names = Names {
-            main,
-            vis: h.vis.as_slice(),
-        };
-        return Ok(plain(3, breaks_text(alloc, &names, breaks.as_slice())?));
+    answer_settings(alloc, h, main, &linked, settings)
+}
+
+/// The answer to a check of a hierarchy.
+fn answer_check(alloc: Global, h: &Hierarchy, main: &Name) -> Result<Answer, AllocError>
+    ensures { IfOk result (λ answer. (words : Row (Row ℕ)) (bytes : Row ℕ) → HasLine words (CheckLine main.now) → length bytes ≤ MOST → IsListing bytes h.now → IsAnswer words bytes answer.trace (reply answer.status answer.text)) }
+{
+    match check(alloc, h, main)? {
+        Checked::Broken(breaks) => answer_breaks(alloc, h, main, breaks.as_slice()),
+        Checked::Unbroken(..) => Ok(plain(0, fixed(alloc, b"ok")?)),
     }
-    if !is_typed(alloc, &h.vis.as_slice()[0])? {
-        return not_built(alloc);
-    }
-    answer_settings(alloc, h, main, settings)
 }
 
 /// The answer to a line and a listing.
@@ -137,7 +183,9 @@ pub(crate) fn answer_line(alloc: Global, line: &Line, bytes: &[u8]) -> Result<An
         }
         Err(ListingRefused::Memory(error)) => return Err(error),
     };
+    spelled_laws();
     match line {
+        Line::Check { main } => answer_check(alloc, &h, main),
         Line::Print => Ok(plain(0, print_listing(alloc, &h)?)),
         Line::Run { main, settings } => answer_run(alloc, &h, main, settings.as_slice()),
     }

@@ -1,4 +1,5 @@
-//! Reads a listing of LabVIEW VIs from standard input, runs it, and writes what its indicators show.
+//! Reads a listing of LabVIEW VIs from standard input, checks it, and prints it or runs it and writes
+//! what its indicators show.
 #![tactic(auto)]
 
 mod answer;

@@ -2,12 +2,13 @@
 
 ghost use Rattle.std.specs.Prelude.{◌≡◌, ℕ, List as Row, [], ◌∷◌, ◌++◌, map, IfOk, OnOk};
 ghost use Rattle.std.specs.Option.{option_copied};
-ghost use Rattle.grun.specs.Settings.{controls, find, spelled_value, value_for, given_from, or_default, value_in};
+ghost use Rattle.grun.specs.Settings.{controls, control_values, find, spelled_value, value_for, given_from, item_values, own_value, value_or};
 ghost use Rattle.grun.specs.Views.{seen_control, seen_controls, types_in, values_in};
 ghost use Rattle.grun.specs.GivenViews.{given_seen};
 
-use g_diagram::PanelItem;
+use g_diagram::{Lit, PanelItem};
 use g_line::Setting;
+use g_literals::literal_value;
 use g_types::Ty;
 use g_valtext::{ValueRefused, read_value};
 use g_values::{Copies, Value, copy, default_of};
@@ -122,37 +123,75 @@ pub(crate) fn go_through<'a>(
     Ok(Given::Right(values))
 }
 
-fn copy_or_default(alloc: Global, ty: &Ty, value: Option<&Value>) -> Result<Value, AllocError>
-    ensures { IfOk result (λ v. v ≡ or_default ty.now (option_copied value.entry)) }
+/// The value of a control that no setting names: the literal on its line, or the default of its type.
+fn own_value(alloc: Global, ty: &Ty, literal: Option<&Lit>) -> Result<Value, AllocError>
+    ensures { IfOk result (λ v. v ≡ own_value ty.now (option_copied literal.entry)) }
 {
-    match value {
-        Some(value) => copy(alloc, value, &mut Copies { n: 0 }),
+    match literal {
+        Some(literal) => literal_value(alloc, literal, ty),
         None => default_of(alloc, ty),
     }
 }
 
-/// The value of a control: what a setting gave it, or the default of its type.
-fn value_in<'a>(
+fn copy_or_own(
     alloc: Global,
-    values: &IndexMap<&'a [u8], Value>,
-    control: Control<'a>,
+    ty: &Ty,
+    literal: Option<&Lit>,
+    value: Option<&Value>,
 ) -> Result<Value, AllocError>
-    ensures { IfOk result (λ v. v ≡ value_in (values_in values.now.entries) (seen_control control.entry)) }
+    ensures { IfOk result (λ v. v ≡ value_or (own_value ty.now (option_copied literal.entry)) (option_copied value.entry)) }
 {
-    copy_or_default(alloc, control.ty, values.get(&control.name))
+    match value {
+        Some(value) => copy(alloc, value, &mut Copies { n: 0 }),
+        None => own_value(alloc, ty, literal),
+    }
+}
+
+/// The value of a control: what a setting gave it, or its own.
+fn value_of<'a>(
+    alloc: Global,
+    given: &IndexMap<&'a [u8], Value>,
+    name: &'a [u8],
+    ty: &Ty,
+    literal: Option<&Lit>,
+) -> Result<Value, AllocError>
+    ensures { IfOk result (λ v. v ≡ value_or (own_value ty.now (option_copied literal.entry)) (find name.now (values_in given.now.entries))) }
+{
+    copy_or_own(alloc, ty, literal, given.get(&name))
+}
+
+fn push_value<'a>(
+    alloc: Global,
+    all: &mut Vec<Value>,
+    given: &IndexMap<&'a [u8], Value>,
+    item: &'a PanelItem,
+) -> Result<(), AllocError>
+    ensures { OnOk result (all.new.items ≡ all.old.items ++ item_values (values_in given.now.entries) item.now) }
+{
+    let PanelItem::Control {
+        name,
+        ty,
+        default,
+        ..
+    } = item
+    else {
+        return Ok(());
+    };
+    all.push(value_of(alloc, given, name.as_slice(), ty, default.as_ref())?)?;
+    Ok(())
 }
 
 /// The values of the controls, in listing order.
 pub(crate) fn values<'a>(
     alloc: Global,
-    controls: &[Control<'a>],
+    panel: &'a [PanelItem],
     given: &IndexMap<&'a [u8], Value>,
 ) -> Result<Vec<Value>, AllocError>
-    ensures { IfOk result (λ values. values.items ≡ map (value_in (values_in given.now.entries)) (seen_controls controls.now)) }
+    ensures { IfOk result (λ values. values.items ≡ control_values panel.now (values_in given.now.entries)) }
 {
     let mut values = Vec::new(alloc);
-    for control in controls {
-        values.push(value_in(alloc, given, *control)?)?;
+    for item in panel {
+        push_value(alloc, &mut values, given, item)?;
     }
     Ok(values)
 }

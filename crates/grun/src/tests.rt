@@ -30,6 +30,17 @@ const TRUTHS: &str =
 
 const WIDE: &str = "glisting 1\nvi Main\nindicator r u8 <- k\nconst u8 256 -> k\nend\n";
 
+const OWN: &str = "glisting 1\nvi Main\ncontrol a i32 = 5 -> a\nindicator r i32 <- a\nend\n";
+
+const ARRAYS: &str =
+    "glisting 1\nvi Main\nindicator n i32 <- n\nconst u8 0 -> e\nconst i32 5000 -> k\ninitialize e k -> a\narray_size a -> n\nend\n";
+
+const UNCOVERED: &str =
+    "glisting 1\nvi Main\ncontrol a i32 -> a\nindicator r i32 <- r\ncase a\nresult r\nwhen 0\ngive v\nconst i32 5 -> v\nend\nend\n";
+
+const CASE: &str =
+    "glisting 1\nvi Main\ncontrol a bool -> a\nindicator r i32 <- r\ncase a\nresult r\nwhen FALSE\ngive v\nconst i32 5 -> v\nwhen TRUE\ngive v\nconst i32 6 -> v\nend\nend\n";
+
 const BROKEN: &str =
     "glisting 1\nvi Main nonreentrant same\n  control a i32 -> a\n  indicator r i32 <- w\n  indicator s i32 <- t\n  add a w -> w\nend\n";
 
@@ -85,13 +96,19 @@ fn answers_each_call(rt: HostRuntime) -> Result<(), Fail> {
         (("print", OPEN), (2, "syntax at 3:19\n")),
         (("print x", ADD), (1, "usage at word 2\n")),
         (("run Other c=1", ADD), (3, "Other:0.0 rule 9\n")),
-        (("run Main a=1", LOOSE), (12, "not built\n")),
+        (("run Main a=1", LOOSE), (3, "Main:1.1 rule 3\n")),
         (("run Main a=255", NARROW), (0, "r = 0\n")),
         (("run Main a=256", NARROW), (4, "control at word 3\n")),
         (("run Main a=-1 b=1", MIXED), (0, "r = 0\nt = TRUE\n")),
         (("run Main a=255 b=2", MIXED), (0, "r = 1\nt = TRUE\n")),
-        (("run Main a=1", TRUTHS), (12, "not built\n")),
-        (("run Main", WIDE), (12, "not built\n")),
+        (("run Main a=1", TRUTHS), (3, "Main:3.1 rule 16\n")),
+        (("run Main", WIDE), (3, "Main:2.0 rule 15\n")),
+        (("run Main", OWN), (0, "r = 5\n")),
+        (("run Main", ARRAYS), (0, "n = 5000\n")),
+        (("run Main c=1", CASE), (12, "not built\n")),
+        (("check Main", CASE), (0, "ok\n")),
+        (("check Main", UNCOVERED), (3, "Main:3.0 rule 18\n")),
+        (("check Other", ADD), (3, "Other:0.0 rule 9\n")),
         (
             ("run Main c=1", BROKEN),
             (3, "Main:3.1 rule 1\nMain:4.0 rule 6\n"),

@@ -18,4 +18,4 @@ returns-in_default-as_str-clause-refused c =
     stops_first (map string_bytes words) (λ w e.
     let same = ap (option_map string_bytes) first ∙ sym (slice_get-map string_bytes words 0) ∙ e in
     let word : string_bytes c.in-Some.command.now ≡ w = cc in
-    other_command w (λ is. c.in_default-as_str.not-run (c.as_str.ensures.value ∙ word ∙ is)) (λ is. c.in_default-as_str.not-print (c.as_str.ensures.value ∙ word ∙ is)))
+    other_command w (λ is. c.in_default-as_str.not-run (c.as_str.ensures.value ∙ word ∙ is)) (λ is. c.in_default-as_str.not-check (c.as_str.ensures.value ∙ word ∙ is)) (λ is. c.in_default-as_str.not-print (c.as_str.ensures.value ∙ word ∙ is)))

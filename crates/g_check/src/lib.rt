@@ -1,0 +1,6 @@
+//! All rules of a hierarchy together.
+#![tactic(auto)]
+
+pub mod check;
+#[cfg(test)]
+mod tests;
