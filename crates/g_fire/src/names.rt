@@ -32,6 +32,7 @@ impl<'a> Model for Names<'a> {
 impl<'a> Names<'a> {
     ghost use Rattle.g_fire.specs.Names.{named, add_name};
 
+    /// No name.
     pub fn new(alloc: Global) -> Names<'a>
         ensures { result ≡ [] }
     {

@@ -503,6 +503,7 @@ fn push_arms<'m>(
     Ok(())
 }
 
+/// What a result tunnel gives outside.
 pub fn push_result<'m>(
     alloc: Global,
     givens: &mut Vec<Given<'m>>,

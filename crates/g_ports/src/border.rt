@@ -136,6 +136,7 @@ pub fn border_operands<'a>(
     }
 }
 
+/// The outputs of a node, outside its border.
 pub fn push_outputs<'a>(
     operands: &mut Vec<Operand<'a>>,
     outputs: &'a [Wire],

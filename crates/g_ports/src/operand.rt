@@ -28,6 +28,7 @@ pub struct Operand<'a> {
     pub wire: Option<&'a Name>,
 }
 
+/// An operand that gives a value to a wire, which some consumer must take.
 pub fn source<'a>(side: Side, wire: &'a Wire) -> Operand<'a>
     ensures { seen_operand result ≡ spec.source (seen_side side) wire.now }
 {
@@ -39,6 +40,7 @@ pub fn source<'a>(side: Side, wire: &'a Wire) -> Operand<'a>
     }
 }
 
+/// An operand that gives a value to a wire, which may have no consumer.
 pub fn free_source<'a>(side: Side, wire: &'a Wire) -> Operand<'a>
     ensures { seen_operand result ≡ spec.free_source (seen_side side) wire.now }
 {
@@ -50,6 +52,7 @@ pub fn free_source<'a>(side: Side, wire: &'a Wire) -> Operand<'a>
     }
 }
 
+/// An operand that takes a value, which must be wired.
 pub fn consumer<'a>(side: Side, wire: &'a Wire) -> Operand<'a>
     ensures { seen_operand result ≡ spec.consumer (seen_side side) wire.now }
 {
@@ -61,6 +64,7 @@ pub fn consumer<'a>(side: Side, wire: &'a Wire) -> Operand<'a>
     }
 }
 
+/// An operand that takes a value, which may be left unwired.
 pub fn free_consumer<'a>(side: Side, wire: &'a Wire) -> Operand<'a>
     ensures { seen_operand result ≡ spec.free_consumer (seen_side side) wire.now }
 {

@@ -6,6 +6,7 @@ use g_lists::{Boxed, List};
 use g_types::{Rep, Ty, TyList, copy};
 use std::alloc::{AllocError, Global};
 
+/// One output of this type.
 pub fn one(alloc: Global, ty: Ty) -> Result<TyList, AllocError>
     ensures { IfOk result (λ ts. ts ≡ ty ∷ []) }
 {
@@ -14,6 +15,7 @@ pub fn one(alloc: Global, ty: Ty) -> Result<TyList, AllocError>
     Ok(List::from_vec(all))
 }
 
+/// Two outputs of these types.
 pub fn two(alloc: Global, first: Ty, second: Ty) -> Result<TyList, AllocError>
     ensures { IfOk result (λ ts. ts ≡ first ∷ second ∷ []) }
 {
@@ -23,6 +25,7 @@ pub fn two(alloc: Global, first: Ty, second: Ty) -> Result<TyList, AllocError>
     Ok(List::from_vec(all))
 }
 
+/// One output of the same type as this.
 pub fn one_copy(alloc: Global, ty: &Ty) -> Result<TyList, AllocError>
     ensures { IfOk result (λ ts. ts ≡ ty.now ∷ []) }
 {
@@ -30,6 +33,7 @@ pub fn one_copy(alloc: Global, ty: &Ty) -> Result<TyList, AllocError>
     one(alloc, ty)
 }
 
+/// Two outputs of the same type as this.
 pub fn two_copies(alloc: Global, ty: &Ty) -> Result<TyList, AllocError>
     ensures { IfOk result (λ ts. ts ≡ ty.now ∷ ty.now ∷ []) }
 {

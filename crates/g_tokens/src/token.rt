@@ -80,6 +80,7 @@ pub struct TextTokens {
 }
 
 impl Tokens {
+    /// No token.
     pub(crate) fn new(alloc: Global) -> Tokens
         ensures tokens { result.tokens ≡ [] }
         ensures places { result.places ≡ [] }
@@ -106,6 +107,7 @@ impl Tokens {
 }
 
 impl TextTokens {
+    /// No token.
     pub(crate) fn new(alloc: Global) -> TextTokens
         ensures tokens { result.tokens ≡ [] }
         ensures places { result.places ≡ [] }

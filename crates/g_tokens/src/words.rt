@@ -8,12 +8,14 @@ use crate::token::Token;
 use g_lists::List;
 use std::alloc::{AllocError, Global};
 
+/// Whether a byte is a letter of ASCII.
 pub(crate) fn is_letter(b: u8) -> bool
     ensures { result ≡ is_letter b }
 {
     matches!(b, b'a'..=b'z' | b'A'..=b'Z')
 }
 
+/// Whether a byte is a decimal digit.
 pub(crate) fn is_digit(b: u8) -> bool
     ensures { result ≡ is_digit b }
 {

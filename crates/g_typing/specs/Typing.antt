@@ -233,6 +233,7 @@ abbrev pub IsGivenTo : List Given → (diagram : ℕ) → (name : List ℕ) → 
 IsGivenTo [] d name = ⊥
 IsGivenTo (g ∷ gs) d name = ((g.diagram ≡ d) × (g.name ≡ name)) ⊎ IsGivenTo gs d name
 
+--- the types of the wires of a VI
 pub record IsTyping (vis : List Vi) (vi : Vi) (types : Types) : Type 0 where
   pub given : AreTypes (called_panel vis) vi.panel (entries_of vi) types
   -- what no line gives has no type

@@ -15,6 +15,7 @@ use std::alloc::{AllocError, Global};
 /// How many elements an array has at most beside its first.
 pub(crate) const MOST_FURTHER: u32 = 4_194_303;
 
+/// A bracket that opens an array.
 pub(crate) fn open_bracket(tokens: &[Token]) -> Result<&[Token], Stop<'_, Token>>
     ensures { Passes result (read (take spec.open_bracket) tokens.now) }
 {
@@ -24,6 +25,7 @@ pub(crate) fn open_bracket(tokens: &[Token]) -> Result<&[Token], Stop<'_, Token>
     }
 }
 
+/// The bracket that closes an array.
 pub(crate) fn close_bracket(tokens: &[Token]) -> Result<&[Token], Stop<'_, Token>>
     ensures { Passes result (read (take spec.close_bracket) tokens.now) }
 {
@@ -43,6 +45,7 @@ pub(crate) fn closed(tokens: &[Token]) -> Option<&[Token]>
     }
 }
 
+/// A brace that opens a cluster.
 pub(crate) fn open_brace(tokens: &[Token]) -> Result<&[Token], Stop<'_, Token>>
     ensures { Passes result (read (take spec.open_brace) tokens.now) }
 {
@@ -52,6 +55,7 @@ pub(crate) fn open_brace(tokens: &[Token]) -> Result<&[Token], Stop<'_, Token>>
     }
 }
 
+/// The brace that closes a cluster.
 pub(crate) fn close_brace(tokens: &[Token]) -> Result<&[Token], Stop<'_, Token>>
     ensures { Passes result (read (take spec.close_brace) tokens.now) }
 {
@@ -61,6 +65,7 @@ pub(crate) fn close_brace(tokens: &[Token]) -> Result<&[Token], Stop<'_, Token>>
     }
 }
 
+/// The comma between two items.
 pub(crate) fn comma(tokens: &[Token]) -> Result<&[Token], Stop<'_, Token>>
     ensures { Passes result (read (take spec.comma) tokens.now) }
 {
@@ -112,6 +117,7 @@ fn truth_of(word: &[u8]) -> Option<bool>
     None
 }
 
+/// A Boolean.
 pub(crate) fn truth(tokens: &[Token]) -> Result<(bool, &[Token]), Stop<'_, Token>>
     ensures { Gives result (read (take spec.truth) tokens.now) }
 {

@@ -60,6 +60,7 @@ fn run(
     })
 }
 
+/// An answer for which nothing fired.
 pub(crate) fn plain(status: u8, text: Bytes) -> Answer
     ensures status { result.status ≡ status }
     ensures text { result.text ≡ text }
