@@ -1,5 +1,5 @@
 -- The text of a node and of a literal, by its variants.
-use Rattle.std.proofs.Common.{◌≡◌, ℕ, ℤ, Bool, List, ◌∷◌, ◌++◌, map, suc, ◌+◌, refl, ap, sym, ◌∙◌, codes}
+use Rattle.std.proofs.Common.{◌≡◌, ℕ, ℤ, Bool, List, ◌∷◌, ◌++◌, map, suc, ◌+◌, ap, sym, ◌∙◌, codes}
 use Rattle.std.specs.Fmt.{signed_decimal}
 use Rattle.g_types.specs.declared.ty.Ty.{Ty}
 use Rattle.g_values.specs.declared.primitive.Primitive.{Primitive}
@@ -17,7 +17,7 @@ use Rattle.g_diagram.specs.declared.node.Node.TheOpen.{Node-F}
 use Rattle.g_diagram.specs.declared.node.Node.TheFolds.{fold-roll-Node, fold_out-Diagram, fold_out-Branch, fold_out-SequenceFrame}
 use Rattle.g_values.specs.Text.{truth_text}
 use Rattle.g_diagram.specs.Words.{primitive_text, shared_text}
-use Rattle.g_diagram.specs.Text.{Wire, Spelling, Block, quoted, listed, literal, literal_step, line_from, bare_line, indent, ended, blocks, with_body, operands, const_line, obtain_line, read_line, write_line, call_line, loop_block, case_block, give_text, selector_text, node, diagram, branch, frame, node_step, branch_step, diagram_step, frame_step}
+use Rattle.g_diagram.specs.Text.{Wire, Spelling, Block, quoted, listed, literal, literal_step, line_from, bare_line, ended, blocks, with_body, operands, const_line, obtain_line, read_line, write_line, call_line, loop_block, case_block, give_text, selector_text, node, diagram, branch, frame, node_step, branch_step, diagram_step, frame_step}
 
 pub literal-Number : (n : ℤ) (rest : List ℕ) → literal (lit.Number n) rest ≡ signed_decimal n ++ rest
 literal-Number n rest = ap (λ l. literal l rest) (sym (lit.rolls-Number n)) ∙ ap (λ (s : Spelling). s rest) (fold-roll-Lit Spelling literal_step (Lit-F.Number n))

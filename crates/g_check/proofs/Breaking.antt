@@ -1,60 +1,25 @@
 -- All breaks together, and where there is none.
-use Rattle.std.proofs.Common.{◌≡◌, ℕ, ◌<◌, Bool, true, false, ◌||◌, ◌&&◌, List, [], ◌∷◌, ◌++◌, length, refl, sym, ap, ◌∙◌, subst, ◌⊎◌, inl, inr, ⊎_elim, arith}
+use Rattle.std.proofs.Common.{◌≡◌, ℕ, ◌<◌, Bool, true, false, ◌||◌, List, [], ◌∷◌, ◌++◌, length, refl, sym, ap, ◌∙◌, subst, ◌⊎◌, inl, inr, ⊎_elim, arith}
 use Rattle.std.specs.List.Sorted.{IsStrictlySortedBy}
-use Rattle.std.specs.declared.cmp.Ordering.{Ordering}
-use Rattle.std.specs.declared.cmp.Ordering.TheVariants.{Less, Equal, Greater}
-use Rattle.std.specs.Ordering.{is_eq, ordering_then, nat_cmp}
-use Rattle.std.specs.Cmp.{unsigned_tied}
-use Rattle.std.proofs.lemmas.Bool.{and_parts}
+use Rattle.std.specs.Ordering.{is_eq}
 use Rattle.std.proofs.lemmas.List.Folds.{list_any-append}
 use Rattle.g_diagram.specs.declared.hierarchy.Hierarchy.{Hierarchy}
 use Rattle.g_diagram.specs.declared.place.Break.{Break}
-use Rattle.g_diagram.specs.declared.place.Place.{Place}
 use Rattle.g_hier.specs.declared.linked.Linked.{Linked}
 use Rattle.g_hier.specs.Answer.{Links, IsTooLarge}
-use Rattle.g_hier.specs.Breaks as hier
 use Rattle.g_hier.specs.Counts.{nodes_in}
 use Rattle.g_hier.specs.Outlines.{number_of, outlines_of}
 use Rattle.g_hier.specs.Recursion.{IsRecursion}
 use Rattle.g_infer.specs.declared.typed.Typed.{Typed}
 use Rattle.g_infer.specs.Answer.{IsTyped}
 use Rattle.g_typing.specs.Breaks.{TypeBreak}
-use Rattle.g_wires.specs.Breaks.{IsWiring, ListsEach, place_cmp, break_cmp, has_break}
+use Rattle.g_breaks.specs.Breaks.{ListsEach, break_cmp, has_break}
+use Rattle.g_breaks.proofs.Ordered.{same_break, has_first}
+use Rattle.g_wires.specs.Breaks.{IsWiring}
 use Rattle.g_check.specs.Checked.{main_break, IsBreak, wires, types, recursion, too_large, IsUnbroken}
 use Rattle.g_check.specs.Parts as parts
 use Rattle.g_check.specs.Parts.{LinkBreak, Tells}
-use Rattle.g_check.proofs.Callable.{refute, has_first}
-
--- ---- equal breaks
-
-is_eq-then : (r o : Ordering) → is_eq (ordering_then r o) ≡ (is_eq r && is_eq o)
-is_eq-then Less o = refl
-is_eq-then Equal o = refl
-is_eq-then Greater o = refl
-
-same_number : (x y : ℕ) → is_eq (nat_cmp x y) ≡ true → x ≡ y
-same_number x y e = let same = sym (unsigned_tied x y) ∙ e in grind (arith, same)
-
-same_then : (r o : Ordering) → is_eq (ordering_then r o) ≡ true → (is_eq r ≡ true) × (is_eq o ≡ true)
-same_then r o e = and_parts (is_eq r) (is_eq o) (sym (is_eq-then r o) ∙ e)
-
-same_place : (a b : Place) → is_eq (place_cmp a b) ≡ true → a ≡ b
-same_place a b e =
-    let p = same_then (nat_cmp a.vi b.vi) (ordering_then (nat_cmp a.line b.line) (nat_cmp a.operand b.operand)) e in
-    let q = same_then (nat_cmp a.line b.line) (nat_cmp a.operand b.operand) p.1 in
-    let vi = same_number a.vi b.vi p.0 in
-    let line = same_number a.line b.line q.0 in
-    let operand = same_number a.operand b.operand q.1 in
-    ap (λ n. let x : Place = record { vi = n; line = a.line; operand = a.operand } in x) vi
-    ∙ ap (λ n. let x : Place = record { vi = b.vi; line = n; operand = a.operand } in x) line
-    ∙ ap (λ n. let x : Place = record { vi = b.vi; line = b.line; operand = n } in x) operand
-
-same_break : (a b : Break) → is_eq (break_cmp a b) ≡ true → a ≡ b
-same_break a b e =
-    let p = same_then (place_cmp a.place b.place) (nat_cmp a.rule b.rule) e in
-    let place = same_place a.place b.place p.0 in
-    let rule = same_number a.rule b.rule p.1 in
-    ap (λ n. let x : Break = record { place = n; rule = a.rule } in x) place ∙ ap (λ n. let x : Break = record { place = b.place; rule = n } in x) rule
+use Rattle.g_check.proofs.Callable.{refute}
 
 only_one : (a b : Break) → has_break (a ∷ []) b ≡ true → b ≡ a
 only_one a b has = same_break b a (one (is_eq (break_cmp b a)) has)
@@ -85,7 +50,7 @@ some_break : (P : Break → Type 0) (bs : List Break) → ((b : Break) → has_b
 some_break P [] only some = absurd (omega (arith, some))
 some_break P (b ∷ bs) only some = (b, only b (has_first b bs))
 
-pub tells_recursions : (h : Hierarchy) (main : List ℕ) (bs : List Break) → hier.ListsEach (IsRecursion (outlines_of h)) bs → 0 < length bs → Tells (LinkBreak h main) bs
+pub tells_recursions : (h : Hierarchy) (main : List ℕ) (bs : List Break) → ListsEach (IsRecursion (outlines_of h)) bs → 0 < length bs → Tells (LinkBreak h main) bs
 tells_recursions h main bs lists some = record {
   only = λ b has. parts.recursion (lists.only b has);
   each = each;

@@ -1,9 +1,7 @@
 -- Where none of the rules 1 to 14 is broken, each call and MAIN name VIs.
-use Rattle.std.proofs.Common.{◌≡◌, ℕ, ◌+◌, ◌<◌, All, Bool, true, false, not, ◌||◌, cond, List, [], ◌∷◌, ◌++◌, map, filter, length, Option, Some, None, refl, sym, ap, ◌∙◌, inl}
+use Rattle.std.proofs.Common.{◌≡◌, ℕ, ◌+◌, ◌<◌, All, Bool, true, false, not, cond, List, [], ◌∷◌, ◌++◌, map, filter, length, Option, Some, None, refl, sym, ◌∙◌, inl}
 use Rattle.std.specs.Prelude.{is_some}
 use Rattle.std.specs.Option.{option_map}
-use Rattle.std.specs.Ordering.{is_eq}
-use Rattle.std.proofs.lemmas.Cmp.{tied_itself}
 use Rattle.std.proofs.lemmas.List.Elements.{All-nil, All-cons}
 use Rattle.g_diagram.specs.declared.hierarchy.Hierarchy.{Hierarchy}
 use Rattle.g_diagram.specs.declared.hierarchy.Vi.{Vi}
@@ -15,23 +13,11 @@ use Rattle.g_hier.proofs.Known.{NamesVi, name_known, calls_known}
 use Rattle.g_line_breaks.specs.Lines.{known_of, arity, names_no_vi, uncalled, whole, miscounted, unlocated, names_object}
 use Rattle.g_line_breaks.specs.Lists.{renamed_items, renamed_vis, called_by, structured_by, lined_by, absent_main}
 use Rattle.g_line_breaks.specs.Spots.{break}
-use Rattle.g_wires.specs.Breaks.{IsWiring, break_cmp, has_break, named_in, plain_in, each_from, plain_breaks}
-use Rattle.g_wires.proofs.Sorting.{break_total}
+use Rattle.g_wires.specs.Breaks.{IsWiring, named_in, plain_in, each_from, plain_breaks}
+use Rattle.g_breaks.proofs.Ordered.{none_in}
 
 pub refute : false ≡ true → ⊥
 refute e = absurd cc
-
-itself : (b : Break) → is_eq (break_cmp b b) ≡ true
-itself b = ap is_eq (tied_itself break_total b)
-
--- the first break of a list stands in it
-pub has_first : (b : Break) (bs : List Break) → has_break (b ∷ bs) b ≡ true
-has_first b bs = ap (λ v. v || has_break bs b) (itself b)
-
--- a list in which no break stands
-none_in : (bs : List Break) → ((b : Break) → has_break bs b ≡ true → ⊥) → bs ≡ []
-none_in [] none = refl
-none_in (b ∷ bs) none = absurd (none b (has_first b bs))
 
 nil_parts : {X : Type 0} (xs ys : List X) → xs ++ ys ≡ [] → (xs ≡ []) × (ys ≡ [])
 nil_parts [] ys e = (refl, e)

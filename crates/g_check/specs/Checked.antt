@@ -7,7 +7,8 @@ use Rattle.g_hier.specs.Answer.{Links, IsTooLarge}
 use Rattle.g_hier.specs.Outlines.{number_of, outlines_of}
 use Rattle.g_hier.specs.Recursion.{IsRecursion}
 use Rattle.g_infer.specs.Answer.{IsTyped}
-use Rattle.g_wires.specs.Breaks.{IsWiring, ListsEach, WiringBreak}
+use Rattle.g_breaks.specs.Breaks.{ListsEach}
+use Rattle.g_wires.specs.Breaks.{IsWiring, WiringBreak}
 use Rattle.g_check.specs.declared.check.Checked.{Checked}
 use Rattle.g_check.specs.declared.check.Checked.TheVariants.{Broken, Unbroken}
 

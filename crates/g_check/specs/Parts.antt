@@ -5,7 +5,7 @@ use Rattle.g_diagram.specs.declared.place.Break.{Break}
 use Rattle.g_hier.specs.Answer.{IsTooLarge}
 use Rattle.g_hier.specs.Outlines.{number_of, outlines_of}
 use Rattle.g_hier.specs.Recursion.{IsRecursion}
-use Rattle.g_wires.specs.Breaks.{has_break}
+use Rattle.g_breaks.specs.Breaks.{has_break}
 use Rattle.g_check.specs.Checked.{main_break}
 
 -- a break of rule 19 or of rule 20

@@ -7,7 +7,8 @@ ghost use Rattle.g_hier.specs.Answer.{Links, IsTooLarge};
 ghost use Rattle.g_hier.specs.Outlines.{number_of, outlines_of};
 ghost use Rattle.g_infer.specs.Answer.{IsTyped};
 ghost use Rattle.g_typing.specs.Breaks.{TypeBreak};
-ghost use Rattle.g_wires.specs.Breaks.{IsWiring, break_cmp, has_break};
+ghost use Rattle.g_breaks.specs.Breaks.{break_cmp, has_break};
+ghost use Rattle.g_wires.specs.Breaks.{IsWiring};
 ghost use Rattle.g_check.specs.Checked.{IsChecked, main_break};
 ghost use Rattle.g_check.specs.Parts.{LinkBreak, Tells};
 
@@ -18,7 +19,7 @@ use g_infer::{InferRefused, Typed};
 use g_line_breaks::next;
 use g_lists::List;
 use g_types::Name;
-use g_wires::listed::listed;
+use g_breaks::listed;
 use g_wires::{BreakList, wiring};
 use std::alloc::{AllocError, Global};
 

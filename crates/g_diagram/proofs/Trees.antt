@@ -17,7 +17,7 @@ use Rattle.g_diagram.specs.declared.node.SequenceFrame.{SequenceFrame}
 use Rattle.g_diagram.specs.declared.node.Node.TheVariants as node
 use Rattle.g_diagram.specs.Lines.{Wire, Lines, BranchLines, FrameLines, Entry, lines_of, one_line, loop_lines, in_order, nodes_entries, entries_in, panel_entries, entries_of}
 use Rattle.g_diagram.specs.Lines as kind
-use Rattle.g_diagram.proofs.LineLemmas.{diagram_lines, branch_lines, frame_lines, case_lines, sequence_lines}
+use Rattle.g_diagram.proofs.LineLemmas.{branch_lines, frame_lines, case_lines, sequence_lines}
 use Rattle.g_diagram.proofs.LineLemmas as by
 
 mutual

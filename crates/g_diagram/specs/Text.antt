@@ -1,7 +1,7 @@
 -- The canonical text of a hierarchy. Each spelling takes the bytes that follow it, so that nothing is cut or regrouped: tokens with one
 -- space between them, two spaces before a line for each VI or structure around it, numbers without a needless zero, every wire's name or
 -- `_`, both words of the `vi` line.
-use Rattle.std.specs.Prelude.{ℕ, zero, suc, ◌+◌, ◌/◌, ◌%◌, nat_lt, ◌==◌, Bool, true, false, ◌&&◌, ◌||◌, if◌then◌else◌, List, [], ◌∷◌, ◌++◌, map, Option, Some, None, ℤ, codes}
+use Rattle.std.specs.Prelude.{ℕ, zero, suc, ◌+◌, Bool, true, false, List, [], ◌∷◌, ◌++◌, map, Option, Some, None, ℤ, codes}
 use Rattle.std.specs.Fmt.{signed_decimal, decimal}
 use Rattle.g_types.specs.Ty as types
 use Rattle.g_values.specs.Text as values

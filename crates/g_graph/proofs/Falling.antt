@@ -1,10 +1,10 @@
 -- Rows whose steps fall.
-use Rattle.std.proofs.Common.{◌≡◌, ◌⊎◌, inl, inr, ⊎_elim, ℕ, ◌+◌, ◌<◌, ◌≤◌, Bool, true, false, ◌||◌, ◌==◌, List, length, take, get_or, refl, sym, ap, ◌∙◌, subst, arith}
+use Rattle.std.proofs.Common.{◌≡◌, ◌⊎◌, inl, inr, ⊎_elim, ℕ, ◌+◌, ◌<◌, ◌≤◌, true, false, ◌==◌, List, length, take, get_or, sym, ap, ◌∙◌, subst, arith}
 use Rattle.std.specs.Prelude.{slice_get, Some}
 use Rattle.std.proofs.lemmas.List.Folds.{list_any_more}
 use Rattle.std.proofs.lemmas.Option.{slice_get_past}
 use Rattle.g_graph.specs.declared.hint.Hint.{Hint}
-use Rattle.g_graph.specs.Graph.{Graph, Shown, has, has_edge, row_of}
+use Rattle.g_graph.specs.Graph.{Graph, has, has_edge, row_of}
 use Rattle.g_graph.specs.Hints.{RowFalls, StepFalls, NodeShown, AreShown, rank_of, is_on, on_in}
 use Rattle.g_graph.proofs.Search.{or_cases, same_number}
 

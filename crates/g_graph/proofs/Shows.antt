@@ -1,5 +1,5 @@
 -- What shows which nodes lead to themselves.
-use Rattle.std.proofs.Common.{◌≡◌, ◌⊎◌, inl, inr, ⊎_elim, ℕ, zero, suc, ◌+◌, ◌<◌, ◌≤◌, Bool, true, false, refl, sym, ap, ◌∙◌, subst, arith}
+use Rattle.std.proofs.Common.{◌≡◌, ◌⊎◌, inl, inr, ⊎_elim, ℕ, zero, suc, ◌<◌, ◌≤◌, Bool, true, false, sym, ◌∙◌, subst, arith}
 use Rattle.g_diagram.specs.Leads.{Walk, Leads}
 use Rattle.g_graph.specs.Graph.{Shown, Enters, Leaves, Turns}
 use Rattle.g_graph.proofs.Search.{one_step, one_more}

@@ -1,5 +1,5 @@
 -- A graph as a list of rows, and the marks of a search.
-use Rattle.std.specs.Prelude.{ℕ, ◌+◌, ◌<◌, ◌≤◌, ◌==◌, ◌≡◌, ◌⊎◌, Bool, true, false, cond, not, ◌&&◌, ◌||◌, List, [], ◌∷◌, ◌++◌, length, slice_get, slice_index_or, Option, Some, None, All, sum_by, Vec}
+use Rattle.std.specs.Prelude.{ℕ, ◌+◌, ◌<◌, ◌≤◌, ◌==◌, ◌≡◌, ◌⊎◌, Bool, true, false, cond, not, ◌&&◌, List, [], ◌∷◌, ◌++◌, length, slice_get, slice_index_or, Option, Some, None, All, sum_by, Vec}
 use Rattle.std.specs.List.{list_any}
 use Rattle.g_diagram.specs.Leads.{Leads}
 use Rattle.std.specs.declared.alloc.Global.{Global}

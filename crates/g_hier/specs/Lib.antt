@@ -1,5 +1,4 @@
 pub mod Outlines
-pub mod Breaks
 pub mod Recursion
 pub mod Counts
 pub mod LinkOrder

@@ -1,21 +1,18 @@
 //! Rule 19: the call lines that lead back to the VI that holds them.
 
 ghost use Rattle.std.specs.Prelude.{◌≡◌, ◌+◌, ◌++◌, length, take, IfOk, OnOk};
-ghost use Rattle.std.specs.List.Sorted.{IsStrictlySortedBy};
-ghost use Rattle.std.specs.BTreeSet.{contains};
-ghost use Rattle.g_diagram.specs.declared.place.Break.{Break as TheBreak};
 ghost use Rattle.g_graph.specs.Graph.{is_marked};
 ghost use Rattle.g_hier.specs.Outlines.{AreKnown};
-ghost use Rattle.g_hier.specs.Breaks.{break_cmp, has_break, ListsEach};
+ghost use Rattle.g_breaks.specs.Breaks.{ListsEach};
 ghost use Rattle.g_hier.specs.Recursion.{IsRecursion};
 ghost use Rattle.g_hier.specs.CallGraph.{break_if, breaks_from};
 
 use crate::graph::{HeldCall, graph_of, held_calls};
 use crate::linked::Outline;
+use g_breaks::listed;
 use g_diagram::{Break, Place};
 use g_graph::cycles::cycles;
 use std::alloc::{AllocError, Global};
-use std::collections::BTreeSet;
 
 /// Adds the break of a call line, if it leads back.
 fn push_break(leads_back: bool, call: HeldCall, breaks: &mut Vec<Break>) -> Result<(), AllocError>
@@ -49,26 +46,6 @@ fn marked_breaks(
     Ok(breaks)
 }
 
-/// The same breaks as a set.
-fn break_set(alloc: Global, breaks: &[Break]) -> Result<BTreeSet<Break>, AllocError>
-    ensures { IfOk result (λ set. (q : TheBreak) → contains break_cmp set q ≡ has_break breaks.now q) }
-{
-    let mut set = BTreeSet::new(alloc);
-    for item in breaks {
-        let _is_new = set.insert(*item)?;
-    }
-    Ok(set)
-}
-
-/// The same breaks in order, each once.
-fn ascending(alloc: Global, breaks: &[Break]) -> Result<Vec<Break>, AllocError>
-    ensures order { IfOk result (λ bs. IsStrictlySortedBy break_cmp bs.items) }
-    ensures same { IfOk result (λ bs. (q : TheBreak) → has_break bs.items q ≡ has_break breaks.now q) }
-{
-    let set = break_set(alloc, breaks)?;
-    set.iter().copied().collect(alloc)
-}
-
 /// All breaks of rule 19, in order: each call line whose VI reaches the VI that holds the line. The time
 /// grows with the number of VIs and call lines. Only want of memory refuses it, as which 2^32 VIs are told
 /// too.
@@ -80,6 +57,6 @@ pub fn recursions_of(alloc: Global, outlines: &[Outline]) -> Result<Vec<Break>, 
     let graph = graph_of(alloc, outlines.len(), calls.as_slice())?;
     let marks = cycles(alloc, graph.as_slice())?;
     let breaks = marked_breaks(alloc, outlines.len(), marks.as_slice(), calls.as_slice())?;
-    let listed = ascending(alloc, breaks.as_slice())?;
-    Ok(listed)
+    let found = listed(alloc, breaks.as_slice())?;
+    Ok(found)
 }

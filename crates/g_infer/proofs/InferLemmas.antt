@@ -33,9 +33,9 @@ use Rattle.g_typing.specs.Typing.{Given, Callees, Objects, HasGiven, AreTypes, I
 use Rattle.g_typing.specs.Breaks.{TypeBreak, breaks_with}
 use Rattle.g_typing.proofs.Agreed.{Typed as IsTypingBy, one_typing}
 use Rattle.g_typable.specs.Typable.{IsTypable}
-use Rattle.g_wires.specs.Breaks.{place_cmp, break_cmp, has_break, ListsEach}
-use Rattle.g_wires.proofs.Sorting.{break_total}
-use Rattle.g_wires.proofs.Found.{and_left, and_right, and_both, same_number}
+use Rattle.g_breaks.specs.Breaks.{break_cmp, has_break, ListsEach}
+use Rattle.g_breaks.proofs.Ordered.{break_total, same_break}
+use Rattle.g_wires.proofs.Found.{and_both}
 use Rattle.g_infer.specs.declared.typed.SourceType.{SourceType}
 use Rattle.g_infer.specs.declared.typed.Typed.{Typed}
 use Rattle.g_infer.specs.declared.typed.ViTypes.{ViTypes}
@@ -261,27 +261,8 @@ told_at called number (v ∷ vis) (t ∷ ts) b h =
 
 -- ---- breaks by their order
 
-same_by : (m n : ℕ) → is_eq (nat_cmp m n) ≡ true → m ≡ n
-same_by m n h = same_number m n (sym (unsigned_tied m n) ∙ h)
-
-then_both : (r o : Ordering) → is_eq (ordering_then r o) ≡ true → (is_eq r ≡ true) × (is_eq o ≡ true)
-then_both r o h = let e = sym (is_eq-then r o) ∙ h in (and_left (is_eq r) (is_eq o) e, and_right (is_eq r) (is_eq o) e)
-
-abbrev made : (vi line operand rule : ℕ) → Break
-made v l o r = record { place = record { vi = v; line = l; operand = o }; rule = r }
-
-exact : (b c : Break) → is_eq (break_cmp b c) ≡ true → b ≡ c
-exact b c h =
-    let whole = then_both (place_cmp b.place c.place) (nat_cmp b.rule c.rule) h in
-    let vi = then_both (nat_cmp b.place.vi c.place.vi) (ordering_then (nat_cmp b.place.line c.place.line) (nat_cmp b.place.operand c.place.operand)) whole.0 in
-    let line = then_both (nat_cmp b.place.line c.place.line) (nat_cmp b.place.operand c.place.operand) vi.1 in
-    ap (λ x. made x b.place.line b.place.operand b.rule) (same_by b.place.vi c.place.vi vi.0)
-    ∙ ap (λ x. made c.place.vi x b.place.operand b.rule) (same_by b.place.line c.place.line line.0)
-    ∙ ap (λ x. made c.place.vi c.place.line x b.rule) (same_by b.place.operand c.place.operand line.1)
-    ∙ ap (made c.place.vi c.place.line c.place.operand) (same_by b.rule c.rule whole.1)
-
 has_contained : (bs : List Break) (b : Break) → has_break bs b ≡ true → Contains bs b
-has_contained bs b h = Contains-from_any exact b bs h
+has_contained bs b h = Contains-from_any same_break b bs h
 
 contained_has : (bs : List Break) (b : Break) → Contains bs b → has_break bs b ≡ true
 contained_has bs b h = list_any-from_Contains (eq_by_cmp_equiv break_total) b bs h

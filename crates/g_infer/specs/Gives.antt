@@ -1,5 +1,5 @@
 -- What steps give.
-use Rattle.std.specs.Prelude.{ℕ, List, [], ◌∷◌, map, Some, true}
+use Rattle.std.specs.Prelude.{List, Some, true}
 use Rattle.g_typing.specs.Types.{Types, whole}
 use Rattle.g_typing.specs.Rows.{has_rows}
 use Rattle.g_typing.specs.Typing.{Given, Callees, Objects, given, controls_given, entry_given, lines_inside, lines_outside, result_given}

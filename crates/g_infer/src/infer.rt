@@ -28,7 +28,7 @@ use g_table::Entry;
 use g_table::table::table;
 use g_typable::typable_laws;
 use g_types::Name;
-use g_wires::listed::listed;
+use g_breaks::listed;
 use std::alloc::{AllocError, Global};
 
 /// The types as they are told.

@@ -1,5 +1,5 @@
 -- Where each of some numbers has another of them before it, one comes before itself.
-use Rattle.std.proofs.Common.{◌≡◌, ◌⊎◌, inl, inr, ⊎_elim, ℕ, zero, suc, ◌+◌, ◌<◌, Bool, true, false, refl, sym, ap, subst, ◌∙◌, arith}
+use Rattle.std.proofs.Common.{◌≡◌, ◌⊎◌, ⊎_elim, ℕ, zero, suc, ◌<◌, Bool, true, false, refl, sym, ap, subst, ◌∙◌, arith}
 
 -- a chosen number below n that comes before a
 pub record Before (chosen : ℕ → Bool) (R : ℕ → ℕ → Type 0) (n a : ℕ) : Type 0 where

@@ -3,7 +3,6 @@ use Rattle.std.proofs.Common.{◌≡◌, Bool, true, false, cond, ◌||◌, ◌&
 use Rattle.std.specs.Prelude.{slice_get}
 use Rattle.std.specs.List.{list_all, list_any}
 use Rattle.std.specs.Ordering.{is_eq}
-use Rattle.std.proofs.lemmas.Cmp.{tied_itself}
 use Rattle.std.proofs.lemmas.List.Folds.{list_any-append}
 use Rattle.g_diagram.specs.declared.place.Break.{Break}
 use Rattle.g_diagram.specs.declared.hierarchy.Vi.{Vi}
@@ -15,8 +14,9 @@ use Rattle.g_line_breaks.specs.Lines.{Known, known_of, whole, fits, miscounted}
 use Rattle.g_line_breaks.specs.Lists.{called_by, structured_by, lined_by, renamed_vis, absent_main}
 use Rattle.g_line_breaks.specs.Spots.{Spot, break}
 use Rattle.g_wires.specs.Wiring.{spot, lacks_source, unsourced, repeated, unused, is_missing, unwired}
-use Rattle.g_wires.specs.Breaks.{break_cmp, has_break, named_in, plain_in, each_from, plain_breaks, IsWiring}
-use Rattle.g_wires.proofs.Sorting.{break_total}
+use Rattle.g_breaks.specs.Breaks.{break_cmp, has_break}
+use Rattle.g_wires.specs.Breaks.{named_in, plain_in, each_from, plain_breaks, IsWiring}
+use Rattle.g_breaks.proofs.Ordered.{same_itself}
 use Rattle.g_fire.specs.Laws.{IsWellWired, has_source}
 use Rattle.g_plain.proofs.Logic.{refute, or_second, some_is, no_item, passes_too}
 
@@ -27,9 +27,6 @@ had_front b xs ys has = list_any-append (λ c. is_eq (break_cmp b c)) xs ys ∙ 
 
 had_back : (b : Break) (xs ys : List Break) → has_break ys b ≡ true → has_break (xs ++ ys) b ≡ true
 had_back b xs ys has = list_any-append (λ c. is_eq (break_cmp b c)) xs ys ∙ or_second (has_break xs b) (has_break ys b) has
-
-itself : (b : Break) → is_eq (break_cmp b b) ≡ true
-itself b = ap is_eq (tied_itself break_total b)
 
 -- a break of the VI at number k is one of all, where VIs count from n
 of_one : (f : ℕ → Vi → List Break) (n m : ℕ) (vis : List Vi) (k : ℕ) (vi : Vi) (b : Break) → slice_get vis k ≡ Some vi → m ≡ n + k → has_break (f m vi) b ≡ true
@@ -54,7 +51,7 @@ module _ {A : Type 0} (number rule : ℕ) (at : A → Spot) (test : A → Bool) 
       by true e others =
           let b = break number rule (at x) in
           let first : told (x ∷ xs) ≡ b ∷ told xs = ap (λ v. map (break number rule) (map at (cond v (x ∷ filter test xs) (filter test xs)))) e in
-          absurd (none b (ap (λ bs. has_break bs b) first ∙ ap (λ v. v || has_break (told xs) b) (itself b)))
+          absurd (none b (ap (λ bs. has_break bs b) first ∙ ap (λ v. v || has_break (told xs) b) (same_itself b)))
       by false e others =
           let same : told (x ∷ xs) ≡ told xs = ap (λ v. map (break number rule) (map at (cond v (x ∷ filter test xs) (filter test xs)))) e in
           ap (λ v. not v && list_all (λ y. not (test y)) xs) e ∙ others (λ b has. none b (ap (λ bs. has_break bs b) same ∙ has))

@@ -1,6 +1,6 @@
 -- Whether an input of a call may be left unwired.
-use Rattle.std.proofs.Common.{◌≡◌, ℕ, zero, suc, Bool, true, false, not, List, [], ◌∷◌, refl}
-use Rattle.std.specs.Prelude.{Option, Some, None, slice_get}
+use Rattle.std.proofs.Common.{◌≡◌, ℕ, zero, suc, Bool, List, [], ◌∷◌, refl}
+use Rattle.std.specs.Prelude.{slice_get}
 use Rattle.g_diagram.specs.Ports.{is_optional}
 use Rattle.g_ports.specs.Callees.{is_unneeded}
 

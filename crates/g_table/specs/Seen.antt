@@ -1,5 +1,5 @@
 -- The nodes of the table, as the definitions have them.
-use Rattle.std.specs.Prelude.{ℕ, List, map}
+use Rattle.std.specs.Prelude.{map}
 use Rattle.g_diagram.specs.Lines as lines
 use Rattle.g_table.specs.declared.entry.Arm.{Arm}
 use Rattle.g_table.specs.declared.entry.Part.{Part}

@@ -1,12 +1,11 @@
 -- What the loop over the bytes of a listing keeps.
-use Rattle.std.proofs.Common.{◌≡◌, ℕ, zero, suc, ◌+◌, ◌-◌, ◌<◌, ◌≤◌, true, false, List, [], ◌∷◌, ◌++◌, length, take, drop, get_or, map, refl, sym, ap, ◌∙◌, arith, add-one, append_assoc, length-drop}
-use Rattle.std.specs.Prelude.{◌==◌}
+use Rattle.std.proofs.Common.{◌≡◌, ℕ, suc, ◌+◌, ◌-◌, ◌<◌, ◌≤◌, true, List, [], ◌∷◌, ◌++◌, length, take, drop, get_or, map, sym, ap, ◌∙◌, arith, add-one, append_assoc, length-drop}
 use Rattle.std.proofs.Math.Seq.{drop-cons}
 use Rattle.std.proofs.lemmas.List.{drop_all, take_more, get_or-drop, map-append}
 use Rattle.g_tokens.specs.declared.token.Token.{Token}
 use Rattle.g_tokens.specs.declared.token.Token.TheVariants as token
 use Rattle.g_tokens.specs.declared.token.Spot.{Spot}
-use Rattle.g_tokens.specs.Tokens.{lexemes, content, line_tokens, lines, lines_tokens, placed, placed_tokens}
+use Rattle.g_tokens.specs.Tokens.{lexemes, content, line_tokens, lines, lines_tokens, placed}
 use Rattle.g_tokens.proofs.Fronts.{not_equal}
 use Rattle.g_tokens.proofs.Gaps.{line_break, line_grows}
 

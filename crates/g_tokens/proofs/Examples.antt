@@ -1,11 +1,9 @@
 -- Tokens by computation.
-use Rattle.std.proofs.Common.{◌≡◌, ℕ, List, [], ◌∷◌, ◌++◌, refl}
+use Rattle.std.proofs.Common.{◌≡◌, ℕ, [], ◌∷◌, ◌++◌, refl}
 use Rattle.std.specs.Prelude.{codes, pos, negsuc}
-use Rattle.g_tokens.specs.declared.token.Token.{Token}
 use Rattle.g_tokens.specs.declared.token.Token.TheVariants as token
 use Rattle.g_tokens.specs.declared.token.Mark.TheVariants as mark
 use Rattle.g_tokens.specs.declared.token.Spot.{Spot}
-use Rattle.g_tokens.specs.declared.texts.Escape.TheVariants as escape
 use Rattle.g_tokens.specs.Tokens.{front, longest, characters, lexemes, lines, placed_tokens}
 
 -- the longest token is taken

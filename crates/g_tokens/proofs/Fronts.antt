@@ -7,7 +7,7 @@ use Rattle.g_tokens.specs.declared.token.Token.{Token}
 use Rattle.g_tokens.specs.declared.token.Token.TheVariants as token
 use Rattle.g_tokens.specs.declared.token.Mark.{Mark}
 use Rattle.g_tokens.specs.declared.token.Mark.TheVariants as mark
-use Rattle.g_tokens.specs.Tokens.{is_letter, is_digit, word, number, text, mark_in, mark_texts, whole, longest, longer_or, front, IsLongest, IsBad, IsFront}
+use Rattle.g_tokens.specs.Tokens.{is_letter, is_digit, word, number, text, mark_in, mark_texts, whole, longest, longer_or, IsLongest, IsBad, IsFront}
 use Rattle.g_tokens.specs.Scan.{mark_alone}
 
 not_within : (n m : ℕ) → nat_le n m ≡ false → n ≤ suc m → n ≡ suc m

@@ -1,11 +1,11 @@
 -- The tokens of a line, one after the other.
-use Rattle.std.proofs.Common.{◌≡◌, ℕ, zero, suc, ◌+◌, ◌-◌, ◌<◌, ◌≤◌, Bool, true, false, ◌&&◌, List, [], ◌∷◌, ◌++◌, length, drop, get_or, map, Option, Some, None, Result, Ok, Err, IfOk, refl, sym, ap, ◌∙◌, arith, subst, add-zero, add-one, append_assoc, length-drop}
+use Rattle.std.proofs.Common.{◌≡◌, ℕ, zero, suc, ◌+◌, ◌-◌, ◌<◌, ◌≤◌, Bool, true, false, ◌&&◌, List, [], ◌∷◌, ◌++◌, length, drop, get_or, Option, Some, None, Result, Ok, Err, IfOk, refl, sym, ap, ◌∙◌, arith, subst, add-zero, add-one, length-drop}
 use Rattle.std.proofs.Math.Seq.{drop-cons}
 use Rattle.std.proofs.lemmas.List.{drop_all, drop-drop}
 use Rattle.std.specs.Prelude.{◌==◌}
 use Rattle.g_tokens.specs.declared.token.Token.{Token}
 use Rattle.g_tokens.specs.declared.token.Lexeme.{Lexeme}
-use Rattle.g_tokens.specs.Tokens.{is_space, front, lexemes, at_gap, IsFront, lines, lines_tokens, line_tokens, cut, content}
+use Rattle.g_tokens.specs.Tokens.{is_space, lexemes, IsFront, lines, lines_tokens, line_tokens, cut, content}
 use Rattle.g_tokens.specs.Scan.{Next, IsNext}
 
 skips : (c : Bool) (k at : ℕ) (w : List ℕ) → k ≤ length w → lexemes c k at w ≡ lexemes c 0 (at + k) (drop k w)

@@ -1,15 +1,12 @@
 -- A run of digits is the longest token at its place.
-use Rattle.std.proofs.Common.{◌≡◌, ℕ, zero, suc, ◌+◌, ◌*◌, ◌-◌, ◌^◌, ◌<◌, ◌≤◌, Bool, true, false, cond, ◌&&◌, not, List, [], ◌∷◌, length, take, drop, Option, Some, None, refl, sym, ap, ◌∙◌, arith, subst, nat_eq, add-one}
-use Rattle.std.specs.Prelude.{nat_le}
+use Rattle.std.proofs.Common.{◌≡◌, ℕ, zero, suc, ◌+◌, ◌*◌, ◌-◌, ◌^◌, ◌<◌, ◌≤◌, Bool, true, false, List, [], ◌∷◌, length, take, Some, None, refl, sym, ap, ◌∙◌, arith, subst, nat_eq, add-one}
 use Rattle.std.specs.List.{prefix_len, list_all}
 use Rattle.std.proofs.lemmas.Bool.{and_parts, eqb-true}
 use Rattle.std.proofs.lemmas.Bool.Decides.{nat_tests}
 use Rattle.std.proofs.lemmas.List.Sums.{prefix_len-le-length}
 use Rattle.std.proofs.Math.Nat.{pow-succ', pow-le-pow_right}
 use Rattle.g_tokens.specs.declared.token.Token.{Token}
-use Rattle.g_tokens.specs.declared.token.Token.TheVariants as token
-use Rattle.g_tokens.specs.declared.token.Mark.{Mark}
-use Rattle.g_tokens.specs.Tokens.{is_letter, is_digit, is_word_byte, begins, digits_value, digits_of, is_run, is_numeral, numeral, word, number, text, mark_in, mark_texts, or_none, whole, IsLongest, IsFront}
+use Rattle.g_tokens.specs.Tokens.{is_letter, is_digit, begins, numeral, word, number, text, mark_texts, whole, IsLongest, IsFront}
 use Rattle.g_tokens.proofs.Fronts.{front_is}
 use Rattle.g_tokens.proofs.WordRuns.{one_more, all_prefix, not_all, mark_none}
 

@@ -1,5 +1,5 @@
 -- A text ends at its first closing quote.
-use Rattle.std.proofs.Common.{◌≡◌, ℕ, zero, suc, ◌+◌, ◌<◌, ◌≤◌, List, [], ◌∷◌, ◌++◌, length, take, drop, Option, Some, None, get_or, refl, sym, ap, ◌∙◌, arith, subst, append_assoc, add-one}
+use Rattle.std.proofs.Common.{◌≡◌, ℕ, zero, suc, ◌+◌, ◌<◌, ◌≤◌, List, [], ◌∷◌, ◌++◌, length, take, drop, Some, None, get_or, refl, sym, ap, ◌∙◌, arith, append_assoc, add-one}
 use Rattle.std.proofs.Math.Seq.{drop-cons}
 use Rattle.std.proofs.lemmas.List.{append-nil}
 use Rattle.g_tokens.specs.declared.token.Token.TheVariants as token
@@ -7,7 +7,7 @@ use Rattle.g_tokens.specs.declared.texts.Escape.{Escape}
 use Rattle.g_tokens.specs.declared.texts.Escape.TheVariants as escape
 use Rattle.g_tokens.specs.declared.texts.Step.{Step}
 use Rattle.g_tokens.specs.declared.texts.Step.TheVariants as step
-use Rattle.g_tokens.specs.Tokens.{in_text, characters, after_step, byte_before, closed, as_text, text, whole, IsLongest, IsBad, IsFront}
+use Rattle.g_tokens.specs.Tokens.{in_text, characters, after_step, closed, whole, IsLongest, IsBad, IsFront}
 use Rattle.g_tokens.specs.Scan.{End, text_end, until, further, put_before}
 use Rattle.g_tokens.proofs.Fronts.{front_is, front_bad}
 

@@ -1,5 +1,5 @@
 -- A run of word bytes is the longest token at its place.
-use Rattle.std.proofs.Common.{◌≡◌, ℕ, zero, suc, ◌+◌, ◌<◌, ◌≤◌, Bool, true, false, cond, ◌&&◌, not, List, [], ◌∷◌, length, take, Option, Some, None, refl, sym, ap, ◌∙◌, arith, subst, nat_eq}
+use Rattle.std.proofs.Common.{◌≡◌, ℕ, zero, suc, ◌+◌, ◌<◌, ◌≤◌, Bool, true, false, cond, ◌&&◌, not, List, [], ◌∷◌, length, take, Some, None, refl, sym, ap, ◌∙◌, arith, subst, nat_eq}
 use Rattle.std.specs.Prelude.{nat_le}
 use Rattle.std.specs.List.{prefix_len, list_all}
 use Rattle.std.proofs.lemmas.Bool.{and_parts, eqb-true}
@@ -9,7 +9,7 @@ use Rattle.g_tokens.specs.declared.token.Token.{Token}
 use Rattle.std.proofs.lemmas.List.Folds.{length-prefix_len}
 use Rattle.g_tokens.specs.declared.token.Token.TheVariants as token
 use Rattle.g_tokens.specs.declared.token.Mark.{Mark}
-use Rattle.g_tokens.specs.Tokens.{is_letter, is_digit, is_word_byte, begins, word_of, word, is_run, is_numeral, number, text, mark_in, mark_texts, or_none, whole, IsLongest}
+use Rattle.g_tokens.specs.Tokens.{is_letter, is_digit, is_word_byte, begins, word_of, word, is_numeral, number, text, mark_in, mark_texts, whole, IsLongest}
 
 pub one_more : (n : ℕ) → 1 + n ≡ suc n
 one_more n = omega arith

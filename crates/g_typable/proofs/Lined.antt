@@ -13,7 +13,7 @@ use Rattle.g_diagram.specs.declared.node.Node.TheFolds.{ind-Node, map-Node, map-
 use Rattle.g_diagram.specs.declared.panel.PanelItem.{PanelItem}
 use Rattle.g_diagram.specs.declared.panel.PanelItem.TheVariants.{Control, Indicator}
 use Rattle.g_diagram.specs.declared.hierarchy.Vi.{Vi}
-use Rattle.g_diagram.specs.Lines.{Wire, Lines, BranchLines, FrameLines, Arm, Part, Entry, Kind, entry, one_line, loop_lines, in_order, count_of, entries_in, give_lines, branch_count, branches_count, branches_entries, arms, frame_count, frames_count, frames_entries, parts, lines_of, nodes_entries, panel_entries, entries_of, For, While, Case, Sequence, InPlace, Shows}
+use Rattle.g_diagram.specs.Lines.{Wire, Lines, BranchLines, FrameLines, Arm, Entry, Kind, entry, one_line, loop_lines, in_order, count_of, entries_in, give_lines, branch_count, branches_count, branches_entries, arms, frame_count, frames_count, frames_entries, parts, lines_of, nodes_entries, panel_entries, entries_of, For, While, Case, Sequence, InPlace}
 use Rattle.g_diagram.specs.Lines as kind
 use Rattle.g_diagram.specs.Operands.{Outside, Inside, Operand, Line, Freedom, source, consumer, free_consumer, border, case_border, plain_line, header_line, border_lines, parts_lines, give_line, call_inputs, in_and_out, kind_lines, entries_lines, control_line, control_lines}
 use Rattle.g_diagram.specs.Ports.{port, ports_from, ports_of, freedom}

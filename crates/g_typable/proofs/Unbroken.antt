@@ -3,7 +3,6 @@ use Rattle.std.proofs.Common.{◌≡◌, inl, inr, ℕ, zero, suc, ◌+◌, Bool
 use Rattle.std.specs.Prelude.{Some, slice_get}
 use Rattle.std.specs.List.{list_any}
 use Rattle.std.specs.Ordering.{is_eq}
-use Rattle.std.specs.Cmp.{eq_by_cmp_equiv}
 use Rattle.std.proofs.lemmas.List.Folds.{list_any-append}
 use Rattle.g_diagram.specs.declared.place.Break.{Break}
 use Rattle.g_diagram.specs.declared.hierarchy.Hierarchy.{Hierarchy}
@@ -15,9 +14,10 @@ use Rattle.g_line_breaks.specs.Spots.{Spot, break}
 use Rattle.g_line_breaks.specs.Lines.{Known, known_of}
 use Rattle.g_line_breaks.specs.Lists.{lined_by, renamed_vis, absent_main}
 use Rattle.g_wires.specs.Wiring.{spot, is_repeated, repeated, unsourced, unused, unwired}
-use Rattle.g_wires.specs.Breaks.{break_cmp, has_break, named_in, plain_in, each_from, plain_breaks, IsWiring}
+use Rattle.g_breaks.specs.Breaks.{break_cmp, has_break}
+use Rattle.g_wires.specs.Breaks.{named_in, plain_in, each_from, plain_breaks, IsWiring}
 use Rattle.g_wires.proofs.Found.{or_left, or_right, and_both, any_filter}
-use Rattle.g_wires.proofs.Sorting.{break_total}
+use Rattle.g_breaks.proofs.Ordered.{same_itself}
 use Rattle.g_typable.proofs.Once.{IsIn, AreFirst}
 
 -- tests of some elements
@@ -45,9 +45,6 @@ passes f keep p (q ∷ ps) (inl e) k h =
 passes f keep p (q ∷ ps) (inr is) k h = later f (keep q) q (filter keep ps) (passes f keep p ps is k h)
 
 -- breaks
-
-itself : (b : Break) → is_eq (break_cmp b b) ≡ true
-itself b = (eq_by_cmp_equiv break_total).refl b
 
 at_port : (b : Break) (g : Spot → Break) (test : Port → Bool) (ps : List Port) → list_any (λ p. is_eq (break_cmp b (g (spot p)))) (filter test ps) ≡ true → has_break (map g (map spot (filter test ps))) b ≡ true
 at_port b g test ps h = mapped (filter test ps) h
@@ -105,7 +102,7 @@ module _ (h : Hierarchy) (main : List ℕ) (none : IsWiring h main []) (k : ℕ)
       passes (λ s. is_before s q && are_joined s q) (λ s. s.is_source) p ports p_in p_source (and_both (is_before p q) (are_joined p q) before joined) in
       let again : is_repeated ports q ≡ true = and_both (is_wired q) (list_any (λ s. is_before s q && are_joined s q) (sources ports)) wired earlier in
       let there : list_any (λ s. is_repeated ports s && is_eq (break_cmp b (break k 2 (spot s)))) (sources ports) ≡ true =
-      passes (λ s. is_repeated ports s && is_eq (break_cmp b (break k 2 (spot s)))) (λ s. s.is_source) q ports q_in q_source (and_both (is_repeated ports q) (is_eq (break_cmp b b)) again (itself b)) in
+      passes (λ s. is_repeated ports s && is_eq (break_cmp b (break k 2 (spot s)))) (λ s. s.is_source) q ports q_in q_source (and_both (is_repeated ports q) (is_eq (break_cmp b b)) again (same_itself b)) in
       let listed : has_break (map (break k 2) (repeated ports)) b ≡ true =
       at_port b (break k 2) (is_repeated ports) (sources ports) (any_filter (λ s. is_eq (break_cmp b (break k 2 (spot s)))) (is_repeated ports) (sources ports) ∙ there) in
       let test : Break → Bool = λ c. is_eq (break_cmp b c) in

@@ -1,11 +1,9 @@
 -- Types that are decided in an order in which each step reads only what steps before it give.
-use Rattle.std.proofs.Common.{◌≡◌, ◌⊎◌, inl, inr, ⊎_elim, ℕ, List, [], ◌∷◌, ◌++◌, refl, ap, sym, ◌∙◌, subst}
-use Rattle.std.specs.Prelude.{Option, Some, None}
-use Rattle.g_types.specs.declared.ty.Ty.{Ty}
-use Rattle.g_diagram.specs.Lines.{Wire}
-use Rattle.g_typing.specs.Types.{Types, wire_type}
-use Rattle.g_typing.specs.Typing.{Given, HasGiven, IsGivenTo}
-use Rattle.g_typing.proofs.Unique.{Step, SameReads, IsLocal, AreLocal, HaveGiven, HoldsAll}
+use Rattle.std.proofs.Common.{◌≡◌, inl, inr, ℕ, List, [], ◌∷◌, refl, sym, ◌∙◌, subst}
+use Rattle.std.specs.Prelude.{None}
+use Rattle.g_typing.specs.Types.{Types}
+use Rattle.g_typing.specs.Typing.{Given, IsGivenTo}
+use Rattle.g_typing.proofs.Unique.{Step, IsLocal, AreLocal, HaveGiven, HoldsAll}
 use Rattle.g_typing.proofs.Only.{IsIn}
 use Rattle.g_typing.proofs.Roles.{nothing, IsRead}
 use Rattle.g_typing.proofs.Names.{IsNamed, AreNamed, same_given}

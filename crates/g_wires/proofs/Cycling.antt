@@ -1,69 +1,26 @@
 -- The breaks of rule 6 put together.
-use Rattle.std.proofs.Common.{◌≡◌, ◌⊎◌, inl, inr, ⊎_elim, ℕ, zero, suc, ◌+◌, ◌<◌, ◌≤◌, ◌==◌, Bool, true, false, ◌&&◌, ◌||◌, List, [], ◌∷◌, ◌++◌, length, get_or, drop, append_assoc, refl, sym, ap, ◌∙◌, subst, arith}
+use Rattle.std.proofs.Common.{◌≡◌, ◌⊎◌, inl, inr, ⊎_elim, ℕ, zero, suc, ◌+◌, ◌<◌, ◌≤◌, Bool, true, false, ◌||◌, List, [], ◌∷◌, ◌++◌, length, get_or, drop, append_assoc, refl, sym, ap, ◌∙◌, subst, arith}
 use Rattle.std.proofs.lemmas.List.{at_drop_more, at_drop_all}
 use Rattle.std.specs.Prelude.{Some, slice_get}
 use Rattle.std.specs.List.Sorted.{IsStrictlySortedBy}
-use Rattle.std.specs.declared.cmp.Ordering.{Ordering}
-use Rattle.std.specs.declared.cmp.Ordering.TheVariants.{Less, Equal, Greater}
-use Rattle.std.specs.Ordering.{ordering_then, nat_cmp, is_eq}
-use Rattle.std.specs.Cmp.{unsigned_tied}
+use Rattle.std.specs.Ordering.{is_eq}
 use Rattle.std.proofs.lemmas.List.Folds.{list_any-append}
 use Rattle.std.proofs.lemmas.Option.{slice_get_within}
 use Rattle.g_diagram.specs.declared.place.Break.{Break}
-use Rattle.g_diagram.specs.declared.place.Place.{Place}
 use Rattle.g_diagram.specs.declared.hierarchy.Vi.{Vi}
 use Rattle.g_diagram.specs.Ports.{Port, has_wire}
 use Rattle.g_diagram.specs.Leads.{Leads}
 use Rattle.g_wires.specs.declared.coded.Coded.{Coded}
 use Rattle.g_wires.specs.Wiring.{LeadsToItself}
-use Rattle.g_wires.specs.Breaks.{place_cmp, break_cmp, has_break, Cycles, BreaksBy, ListsEach, plain_breaks, each_from}
+use Rattle.g_breaks.specs.Breaks.{break_cmp, has_break, ListsEach}
+use Rattle.g_breaks.proofs.Ordered.{same_break, same_itself, of_parts}
+use Rattle.g_wires.specs.Breaks.{Cycles, BreaksBy, plain_breaks, each_from}
 use Rattle.g_line_breaks.specs.Lists.{absent_main}
 use Rattle.g_line_breaks.specs.Lines.{Known}
 use Rattle.g_wires.specs.Marks.{line_break, marked_from, coded_wire}
 use Rattle.g_wires.specs.Checked.{TellsLines, IsCycle, AddsCycles, CyclesBelow}
-use Rattle.g_wires.proofs.Found.{or_left, or_right, or_cases, and_left, and_right, and_both, same_number, number_same}
+use Rattle.g_wires.proofs.Found.{or_left, or_right, or_cases}
 use Rattle.g_wires.proofs.Turning.{leads_same}
-
-is_eq-then : (r o : Ordering) → is_eq (ordering_then r o) ≡ (is_eq r && is_eq o)
-is_eq-then Less o = refl
-is_eq-then Equal o = refl
-is_eq-then Greater o = refl
-
-parts_same : (b c : Break) → Bool
-parts_same b c = ((b.place.vi == c.place.vi) && ((b.place.line == c.place.line) && (b.place.operand == c.place.operand))) && (b.rule == c.rule)
-
-place_is : (p q : Place) → is_eq (place_cmp p q) ≡ ((p.vi == q.vi) && ((p.line == q.line) && (p.operand == q.operand)))
-place_is p q =
-    is_eq-then (nat_cmp p.vi q.vi) (ordering_then (nat_cmp p.line q.line) (nat_cmp p.operand q.operand))
-    ∙ ap (λ x. x && is_eq (ordering_then (nat_cmp p.line q.line) (nat_cmp p.operand q.operand))) (unsigned_tied p.vi q.vi)
-    ∙ ap (λ x. (p.vi == q.vi) && x) (is_eq-then (nat_cmp p.line q.line) (nat_cmp p.operand q.operand)
-    ∙ ap (λ x. x && is_eq (nat_cmp p.operand q.operand)) (unsigned_tied p.line q.line) ∙ ap (λ x. (p.line == q.line) && x) (unsigned_tied p.operand q.operand))
-
-break_is : (b c : Break) → is_eq (break_cmp b c) ≡ (((b.place.vi == c.place.vi) && ((b.place.line == c.place.line) && (b.place.operand == c.place.operand))) && (b.rule == c.rule))
-break_is b c = is_eq-then (place_cmp b.place c.place) (nat_cmp b.rule c.rule)
-    ∙ ap (λ x. x && is_eq (nat_cmp b.rule c.rule)) (place_is b.place c.place)
-    ∙ ap (λ x. ((b.place.vi == c.place.vi) && ((b.place.line == c.place.line) && (b.place.operand == c.place.operand))) && x) (unsigned_tied b.rule c.rule)
-
-abbrev made : (vi line operand rule : ℕ) → Break
-made v l o r = record { place = record { vi = v; line = l; operand = o }; rule = r }
-
-of_parts : (b : Break) (v l o r : ℕ) → b.place.vi ≡ v → b.place.line ≡ l → b.place.operand ≡ o → b.rule ≡ r → b ≡ made v l o r
-of_parts b v l o r ev el eo er =
-    ap (λ x. made x b.place.line b.place.operand b.rule) ev ∙ ap (λ x. made v x b.place.operand b.rule) el ∙ ap (λ x. made v l x b.rule) eo ∙ ap (made v l o) er
-
-break_same : (b c : Break) → is_eq (break_cmp b c) ≡ true → b ≡ c
-break_same b c h =
-    let all = sym (break_is b c) ∙ h in
-    let places = and_left ((b.place.vi == c.place.vi) && ((b.place.line == c.place.line) && (b.place.operand == c.place.operand))) (b.rule == c.rule) all in
-    let rest = and_right (b.place.vi == c.place.vi) ((b.place.line == c.place.line) && (b.place.operand == c.place.operand)) places in
-    of_parts b c.place.vi c.place.line c.place.operand c.rule
-    (same_number b.place.vi c.place.vi (and_left (b.place.vi == c.place.vi) ((b.place.line == c.place.line) && (b.place.operand == c.place.operand)) places))
-    (same_number b.place.line c.place.line (and_left (b.place.line == c.place.line) (b.place.operand == c.place.operand) rest))
-    (same_number b.place.operand c.place.operand (and_right (b.place.line == c.place.line) (b.place.operand == c.place.operand) rest))
-    (same_number b.rule c.rule (and_right ((b.place.vi == c.place.vi) && ((b.place.line == c.place.line) && (b.place.operand == c.place.operand))) (b.rule == c.rule) all))
-
-itself : (b : Break) → is_eq (break_cmp b b) ≡ true
-itself b = break_is b b ∙ and_both _ _ (and_both _ _ (number_same b.place.vi) (and_both _ _ (number_same b.place.line) (number_same b.place.operand))) (number_same b.rule)
 
 -- a break of a marked line
 record Marked (vi first : ℕ) (ms : List Bool) (b : Break) : Type 0 where
@@ -75,7 +32,7 @@ record Marked (vi first : ℕ) (ms : List Bool) (b : Break) : Type 0 where
 marked_has : (vi first : ℕ) (ms : List Bool) (b : Break) → has_break (marked_from vi first ms) b ≡ true → Marked vi first ms b
 marked_has vi first [] b h = cc
 marked_has vi first (true ∷ ms) b h = ⊎_elim
-    (λ e. record { at = 0; below = omega arith; mark = refl; is = break_same b (line_break vi first) e ∙ ap (line_break vi) (omega arith) })
+    (λ e. record { at = 0; below = omega arith; mark = refl; is = same_break b (line_break vi first) e ∙ ap (line_break vi) (omega arith) })
     (λ e. let r : Marked vi (first + 1) ms b = marked_has vi (first + 1) ms b e in
     record { at = suc r.at; below = let lt = r.below in omega (arith, lt); mark = r.mark; is = r.is ∙ ap (line_break vi) (omega arith) })
     (or_cases (is_eq (break_cmp b (line_break vi first))) (has_break (marked_from vi (first + 1) ms) b) h)
@@ -88,7 +45,7 @@ marked_is vi first [] k lt h = absurd (omega arith)
 marked_is vi first (true ∷ ms) zero lt h =
     let P : ℕ → Type 0 = λ n. is_eq (break_cmp (line_break vi n) (line_break vi first)) ≡ true in
     let e : first ≡ first + 0 = omega arith in
-    or_left (is_eq (break_cmp (line_break vi (first + 0)) (line_break vi first))) (has_break (marked_from vi (first + 1) ms) (line_break vi (first + 0))) (subst P e (itself (line_break vi first)))
+    or_left (is_eq (break_cmp (line_break vi (first + 0)) (line_break vi first))) (has_break (marked_from vi (first + 1) ms) (line_break vi (first + 0))) (subst P e (same_itself (line_break vi first)))
 marked_is vi first (true ∷ ms) (suc k) lt h =
     let P : ℕ → Type 0 = λ n. has_break (marked_from vi (first + 1) ms) (line_break vi n) ≡ true in
     let e : first + 1 + k ≡ first + suc k = omega arith in

@@ -3,7 +3,6 @@ pub mod Bipartite
 pub mod NumberLemmas
 pub mod EdgeLemmas
 pub mod Faithful
-pub mod Sorting
 pub mod Turning
 pub mod Cycling
 pub mod Codings

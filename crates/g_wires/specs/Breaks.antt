@@ -1,30 +1,15 @@
 -- What is broken in a hierarchy, and the list of it.
-use Rattle.std.specs.Prelude.{ℕ, ◌≡◌, ◌⊎◌, ◌+◌, IsTrue, Bool, List, [], ◌∷◌, ◌++◌, map, length, Some, slice_get}
-use Rattle.std.specs.List.{list_any}
-use Rattle.std.specs.List.Sorted.{IsStrictlySortedBy}
-use Rattle.std.specs.declared.cmp.Ordering.{Ordering}
-use Rattle.std.specs.Ordering.{ordering_then, nat_cmp, is_eq}
+use Rattle.std.specs.Prelude.{ℕ, ◌≡◌, ◌⊎◌, ◌+◌, IsTrue, List, [], ◌∷◌, ◌++◌, map, length, Some, slice_get}
 use Rattle.g_diagram.specs.declared.place.Break.{Break}
-use Rattle.g_diagram.specs.declared.place.Place.{Place}
 use Rattle.g_diagram.specs.declared.hierarchy.Vi.{Vi}
 use Rattle.g_diagram.specs.declared.hierarchy.Hierarchy.{Hierarchy}
 use Rattle.g_diagram.specs.Lines.{entries_of}
 use Rattle.g_diagram.specs.Ports.{Port, ports_of}
+use Rattle.g_breaks.specs.Breaks.{has_break, ListsEach}
 use Rattle.g_line_breaks.specs.Spots.{break}
 use Rattle.g_line_breaks.specs.Lines.{Known, known_of}
 use Rattle.g_line_breaks.specs.Lists.{lined_by, renamed_vis, absent_main}
 use Rattle.g_wires.specs.Wiring.{unsourced, repeated, unused, unwired, LeadsToItself}
-
--- places are ordered by VI, line and operand, and breaks by place and then rule
-abbrev pub place_cmp : Place → Place → Ordering
-place_cmp a b = ordering_then (nat_cmp a.vi b.vi) (ordering_then (nat_cmp a.line b.line) (nat_cmp a.operand b.operand))
-
-abbrev pub break_cmp : Break → Break → Ordering
-break_cmp a b = ordering_then (place_cmp a.place b.place) (nat_cmp a.rule b.rule)
-
--- whether a break stands in a list
-abbrev pub has_break : List Break → Break → Bool
-has_break bs b = list_any (λ c. is_eq (break_cmp b c)) bs
 
 -- the breaks on names of one VI with these ports
 abbrev pub named_in : List Port → (number : ℕ) → List Break
@@ -59,12 +44,6 @@ BreaksBy ports known vis main b = IsTrue (has_break (plain_breaks ports known vi
 -- what is broken of rules 1 to 14
 abbrev pub WiringBreak : Hierarchy → (main : List ℕ) → Break → Type 0
 WiringBreak h main b = BreaksBy (ports_of h.vis) (known_of h.vis) h.vis main b
-
--- the list of exactly what is broken: strictly ascending
-pub record ListsEach (P : Break → Type 0) (bs : List Break) : Type 0 where
-  pub ascending : IsStrictlySortedBy break_cmp bs
-  pub only : (b : Break) → IsTrue (has_break bs b) → P b
-  pub each : (b : Break) → P b → IsTrue (has_break bs b)
 
 -- what `wiring` gives
 abbrev pub IsWiring : Hierarchy → (main : List ℕ) → List Break → Type 0

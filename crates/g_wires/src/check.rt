@@ -10,7 +10,7 @@ ghost use Rattle.g_wires.specs.Checked.{ports_with, IsCoding, AddsCycles, Cycles
 ghost use Rattle.g_line_breaks.specs.Names.{known_by};
 
 use crate::coded::{Coded, code_all, wire_numbers};
-use crate::listed::listed;
+use g_breaks::listed;
 use crate::named::push_named;
 use crate::turns::{push_marked, turning_lines};
 use g_diagram::{Break, Hierarchy, Vi};

@@ -5,7 +5,6 @@ mod check;
 mod coded;
 mod edges;
 mod firsts;
-pub mod listed;
 mod marks;
 mod named;
 #[cfg(test)]

@@ -1,6 +1,5 @@
 //! Small hierarchies with their breaks.
 
-use crate::listed::listed;
 use crate::wiring;
 use g_diagram::{
     Branch, Break, Clones, Diagram, Hierarchy, Node, PanelItem, Place, Selector, System, Vi, Wire,
@@ -130,17 +129,5 @@ fn absent_main(rt: HostRuntime) -> Result<(), Fail> {
         operand: 0,
     };
     assert_eq!(rt; breaks.as_slice(), [Break { place, rule: 9 }].as_slice());
-    Ok(())
-}
-
-#[test]
-fn lists_each_once(rt: HostRuntime) -> Result<(), Fail> {
-    let alloc = rt.alloc();
-    let breaks = listed(
-        alloc,
-        &[at(4, 0, 6), at(3, 2, 17), at(3, 2, 1), at(4, 0, 6)],
-    )?;
-    let wanted = [at(3, 2, 1), at(3, 2, 17), at(4, 0, 6)];
-    assert_eq!(rt; breaks.as_slice(), wanted.as_slice());
     Ok(())
 }

@@ -4,7 +4,6 @@ use Rattle.std.proofs.Common.{inl}
 use Rattle.std.specs.Prelude.{Some, None, slice_get, bytes_eq, if◌then◌else◌}
 use Rattle.std.specs.List.{list_any}
 use Rattle.std.specs.Ordering.{is_eq}
-use Rattle.std.proofs.lemmas.Cmp.{tied_itself}
 use Rattle.std.proofs.lemmas.List.Folds.{list_any-append}
 use Rattle.std.proofs.lemmas.Slice.Eq.{bytes_eq-Decides}
 use Rattle.g_diagram.specs.declared.place.Break.{Break}
@@ -17,8 +16,9 @@ use Rattle.g_diagram.specs.Ports.{ports_of}
 use Rattle.g_line_breaks.specs.Lines.{known_of, named_again, panel_name, miscounted}
 use Rattle.g_line_breaks.specs.Lists.{called_by, lined_by, structured_by, renamed_items, renamed_vis, absent_main}
 use Rattle.g_line_breaks.specs.Spots.{break}
-use Rattle.g_wires.specs.Breaks.{break_cmp, has_break, named_in, plain_in, each_from, plain_breaks, IsWiring}
-use Rattle.g_wires.proofs.Sorting.{break_total}
+use Rattle.g_breaks.specs.Breaks.{break_cmp, has_break}
+use Rattle.g_wires.specs.Breaks.{named_in, plain_in, each_from, plain_breaks, IsWiring}
+use Rattle.g_breaks.proofs.Ordered.{none_in, none_held}
 use Rattle.grun.specs.Settings.{find, controls}
 use Rattle.grun.proofs.Finding.{find-append}
 
@@ -32,22 +32,11 @@ pub right_empty : {A : Type 0} (xs ys : List A) → xs ++ ys ≡ [] → ys ≡ [
 right_empty [] ys e = e
 right_empty (x ∷ xs) ys e = absurd cc
 
-itself : (b : Break) → is_eq (break_cmp b b) ≡ true
-itself b = ap is_eq (tied_itself break_total b)
-
--- what has no break is empty
-empty_of : (bs : List Break) → ((b : Break) → has_break bs b ≡ true → ⊥) → bs ≡ []
-empty_of [] none = refl
-empty_of (b ∷ bs) none = absurd (none b (ap (λ v. v || has_break bs b) (itself b)))
-
-none_held : (b : Break) → has_break [] b ≡ true → ⊥
-none_held b e = cc
-
 none_plain : (h : Hierarchy) (main : List ℕ) → IsWiring h main [] → plain_breaks (ports_of h.vis) (known_of h.vis) h.vis ≡ []
 none_plain h main wired =
     let all = plain_breaks (ports_of h.vis) (known_of h.vis) h.vis in
     let last = absent_main (known_of h.vis).arities (length h.vis) main in
-    empty_of all (λ b has. none_held b (wired.each b (inl (list_any-append (λ c. is_eq (break_cmp b c)) all last ∙ ap (λ v. v || has_break last b) has))))
+    none_in all (λ b has. none_held b (wired.each b (inl (list_any-append (λ c. is_eq (break_cmp b c)) all last ∙ ap (λ v. v || has_break last b) has))))
 
 each_none : (f : ℕ → Vi → List Break) (n : ℕ) (vis : List Vi) (k : ℕ) (vi : Vi) → each_from f n vis ≡ [] → slice_get vis k ≡ Some vi → f (n + k) vi ≡ []
 each_none f n [] k vi e at = absurd cc

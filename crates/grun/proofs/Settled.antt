@@ -1,6 +1,6 @@
 -- What settings have to be for a run.
 use Rattle.std.proofs.Common.{cond, ◌≡◌, ℕ, ◌+◌, ◌<◌, suc, Bool, Option, Some, None, true, false, List, [], ◌∷◌, ◌++◌, map, length, refl, ap, sym, ◌∙◌, subst, arith}
-use Rattle.std.specs.Prelude.{bytes_eq, slice_get, get_or, Contains, if◌then◌else◌}
+use Rattle.std.specs.Prelude.{bytes_eq, slice_get, Contains, if◌then◌else◌}
 use Rattle.std.specs.List.{All}
 use Rattle.std.proofs.lemmas.List.Elements.{All-nil, All-cons, All-head, All-tail, All-append}
 use Rattle.std.proofs.lemmas.Option.{get_or_from_slice_get, slice_get_within}
@@ -37,7 +37,7 @@ use Rattle.g_typing.specs.Selected.{unselected}
 use Rattle.g_typing.specs.Types.{Types, place}
 use Rattle.g_typing.specs.Typing.{control_types, called_panel, panel_type, IsTyping}
 use Rattle.grun.specs.Ready.{IsReady}
-use Rattle.grun.specs.Settings.{Named, Given, Wrong, Right, find, spelled_as, value_for, take_setting, given_from, given, own_value, value_or, item_values, controls, control_values}
+use Rattle.grun.specs.Settings.{Named, Given, Wrong, Right, find, spelled_as, value_for, take_setting, given_from, given, own_value, value_or, controls, control_values}
 use Rattle.grun.proofs.Finding.{or_else, find-append}
 use Rattle.grun.proofs.NamesApart.{AreFirst, left_empty, right_empty, names_apart}
 use Rattle.grun.proofs.Spelled.{spelled_typed, spelled_proper}

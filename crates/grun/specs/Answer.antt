@@ -14,7 +14,7 @@ use Rattle.g_line.specs.declared.forms.Line.{Line}
 use Rattle.g_line.specs.declared.forms.Line.TheVariants.{Run, Check, Print}
 use Rattle.g_line.specs.Forms.{HasLine}
 use Rattle.g_line.specs.Usage.{IsFirstWrong}
-use Rattle.g_wires.specs.Breaks.{ListsEach}
+use Rattle.g_breaks.specs.Breaks.{ListsEach}
 use Rattle.g_check.specs.Checked.{IsBreak, IsUnbroken}
 use Rattle.g_hier.specs.Outlines.{number_of}
 use Rattle.g_plain.specs.Plain.{IsPlain}

@@ -1,6 +1,6 @@
 -- What settings say of controls: each names a control that no setting before it named, and has a value of its type; a control that none
 -- names has the literal that stands on its line, or the default of its type.
-use Rattle.std.specs.Prelude.{ℕ, ◌+◌, List, [], ◌∷◌, ◌++◌, map, bytes_eq, Option, Some, None, Result, Ok, Err, if◌then◌else◌}
+use Rattle.std.specs.Prelude.{ℕ, ◌+◌, List, [], ◌∷◌, ◌++◌, bytes_eq, Option, Some, None, Result, Ok, Err, if◌then◌else◌}
 use Rattle.g_grammar.specs.Grammar.{all_read, read}
 use Rattle.g_tokens.specs.declared.token.Token.{Token}
 use Rattle.g_types.specs.declared.ty.Ty.{Ty}

@@ -1,6 +1,5 @@
-use Rattle.std.proofs.Common.{◌≡◌, [], ◌++◌, List, ℕ, ap, sym, subst, ◌∙◌, codes}
+use Rattle.std.proofs.Common.{[], ◌++◌, List, ℕ, ap, sym, subst, ◌∙◌, codes}
 use Rattle.std.proofs.lemmas.List.{append-nil}
-use Rattle.g_diagram.specs.declared.hierarchy.Hierarchy.{Hierarchy}
 use Rattle.g_diagram.specs.Text as spec
 use Rattle.g_syntax.specs.Listing.{IsListing}
 use Rattle.g_canonical.proofs.ListingParts.{reads_back, alone}

@@ -7,7 +7,7 @@ use Rattle.g_hier.specs.declared.linked.Linked.{Linked}
 use Rattle.g_infer.specs.Answer.{IsTyped}
 use Rattle.g_infer.specs.declared.typed.Typed.{Typed}
 use Rattle.g_typing.specs.Breaks.{TypeBreak}
-use Rattle.g_wires.specs.Breaks.{has_break}
+use Rattle.g_breaks.specs.Breaks.{has_break}
 use Rattle.g_check.specs.Parts.{LinkBreak, Tells}
 use Rattle.g_check.proofs.Breaking.{unbroken, merges, tells_none, no_link_break, longer_front}
 use Rattle.g_check.proofs.check.check_wired.Goals as goal

@@ -1,5 +1,4 @@
-use Rattle.std.proofs.Common.{arith, refl}
-use Rattle.std.proofs.lemmas.Grind.{common_steps}
+use Rattle.std.proofs.Common.{refl}
 use Rattle.g_graph.proofs.Falling.{row_more}
 use Rattle.g_graph.proofs.cycles.row_falls.Goals as goal
 

@@ -1,4 +1,4 @@
-use Rattle.std.proofs.Common.{◌≡◌, List, [], length, ap, ◌∙◌, sym, subst, arith}
+use Rattle.std.proofs.Common.{◌≡◌, List, [], ◌∙◌, sym, subst, arith}
 use Rattle.g_diagram.specs.declared.place.Break.{Break}
 use Rattle.g_wires.specs.Breaks.{IsWiring}
 use Rattle.g_infer.proofs.InferLemmas.{none_left}

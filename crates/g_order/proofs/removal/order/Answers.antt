@@ -1,5 +1,4 @@
-use Rattle.std.proofs.Common.{◌≡◌, length, arith, sym, ◌∙◌}
-use Rattle.g_order.specs.Order.{HasCycle}
+use Rattle.std.proofs.Common.{◌≡◌, length, arith}
 use Rattle.g_order.proofs.Removing.{removed_next, row_waits, is_order, has_cycle}
 use Rattle.g_order.proofs.removal.order.Goals as goal
 

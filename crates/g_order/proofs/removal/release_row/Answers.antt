@@ -1,4 +1,4 @@
-use Rattle.std.proofs.Common.{◌+◌, ◌<◌, arith}
+use Rattle.std.proofs.Common.{arith}
 use Rattle.g_order.proofs.Removing.{some_left}
 use Rattle.g_order.proofs.removal.release_row.Goals as goal
 

@@ -1,5 +1,5 @@
-use Rattle.std.proofs.Common.{◌≡◌, true, false, sym, ap, ◌∙◌, refl, ℕ, List, subst, arith, length, ◌∷◌}
-use Rattle.g_tokens.specs.Tokens.{begins, is_digit, is_letter, IsFront}
+use Rattle.std.proofs.Common.{◌≡◌, true, sym, ap, ◌∙◌, refl, arith}
+use Rattle.g_tokens.specs.Tokens.{begins, is_digit, is_letter}
 use Rattle.g_tokens.proofs.Fronts.{alone_front, no_front}
 use Rattle.g_tokens.proofs.Numerals.{plain}
 use Rattle.g_tokens.proofs.front.token_at.Goals as goal

@@ -1,4 +1,4 @@
-use Rattle.std.proofs.Common.{◌≡◌, true, false, sym, ◌∙◌, ◌-◌, length, drop, arith, length-drop}
+use Rattle.std.proofs.Common.{sym, ◌∙◌, ◌-◌, length, drop, arith, length-drop}
 use Rattle.std.proofs.lemmas.List.{take_all}
 use Rattle.g_tokens.proofs.Gaps.{comment_at, token_next}
 use Rattle.g_tokens.proofs.lines.lexeme_at.Goals as goal

@@ -1,4 +1,4 @@
-use Rattle.std.proofs.Common.{◌≡◌, sym, ◌∙◌, ap, arith, refl, Ok, Err, Result, IfOk, List, [], ◌∷◌, ◌++◌}
+use Rattle.std.proofs.Common.{◌≡◌, ◌∙◌, ap, arith, refl, Ok, Err, Result, IfOk, List, [], ◌∷◌, ◌++◌}
 use Rattle.g_tokens.specs.declared.token.Token.{Token}
 use Rattle.g_tokens.specs.declared.token.Spot.{Spot}
 use Rattle.g_tokens.specs.declared.token.Tokens.{Tokens}

@@ -1,5 +1,5 @@
-use Rattle.std.proofs.Common.{◌≡◌, true, false, sym, ◌∙◌, arith}
-use Rattle.g_tokens.proofs.Gaps.{space_at, none_at, ok_from}
+use Rattle.std.proofs.Common.{sym, ◌∙◌}
+use Rattle.g_tokens.proofs.Gaps.{space_at, none_at}
 use Rattle.g_tokens.proofs.lines.next_lexeme.Goals as goal
 
 pub loop-at-preserved : goal.loop-at-preserved

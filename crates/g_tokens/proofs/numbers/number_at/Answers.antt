@@ -1,4 +1,4 @@
-use Rattle.std.proofs.Common.{◌≡◌, ℕ, List, true, sym, ap, ◌∙◌, take}
+use Rattle.std.proofs.Common.{ℕ, ap, ◌∙◌, take}
 use Rattle.std.specs.List.{list_all}
 use Rattle.g_tokens.specs.Tokens.{is_digit}
 use Rattle.g_tokens.proofs.WordRuns.{all_prefix}

@@ -1,6 +1,6 @@
-use Rattle.std.proofs.Common.{sym, ◌∙◌, length, arith}
+use Rattle.std.proofs.Common.{sym, ◌∙◌}
 use Rattle.std.proofs.lemmas.List.{drop_all}
-use Rattle.g_tokens.proofs.TextEnds.{closes_at, refused_at, means_at, begins_at, none_left, from_start}
+use Rattle.g_tokens.proofs.TextEnds.{closes_at, refused_at, means_at, begins_at, none_left}
 use Rattle.g_tokens.proofs.texts.text_at.Goals as goal
 use Rattle.g_tokens.proofs.texts.text_at.Goals.{in-Means+in_ok-push-in-Means, in-Begins}
 

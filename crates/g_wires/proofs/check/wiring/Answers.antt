@@ -3,7 +3,8 @@ use Rattle.g_diagram.specs.declared.hierarchy.Vi.{Vi}
 use Rattle.g_diagram.specs.declared.place.Break.{Break}
 use Rattle.g_diagram.specs.Ports.{Port, ports_of}
 use Rattle.g_ports.specs.Callees.{freedom_by}
-use Rattle.g_wires.specs.Breaks.{BreaksBy, ListsEach, has_break}
+use Rattle.g_breaks.specs.Breaks.{ListsEach, has_break}
+use Rattle.g_wires.specs.Breaks.{BreaksBy}
 use Rattle.g_line_breaks.specs.Lists.{renamed_vis, absent_main}
 use Rattle.g_wires.specs.Checked.{ports_with}
 use Rattle.g_line_breaks.specs.Lines.{Known, known_of}

@@ -4,7 +4,7 @@ ghost use Rattle.std.specs.Prelude.{◌≡◌, IfOk, take};
 ghost use Rattle.std.specs.List.Sorted.{IsStrictlySortedBy};
 ghost use Rattle.std.specs.BTreeSet.{contains};
 ghost use Rattle.g_diagram.specs.declared.place.Break.{Break as TheBreak};
-ghost use Rattle.g_wires.specs.Breaks.{break_cmp, has_break};
+ghost use Rattle.g_breaks.specs.Breaks.{break_cmp, has_break};
 
 use g_diagram::Break;
 use std::alloc::{AllocError, Global};
