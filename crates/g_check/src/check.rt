@@ -3,7 +3,7 @@
 ghost use Rattle.std.specs.Prelude.{◌≡◌, ◌<◌, ◌∷◌, ◌++◌, [], length, IfOk, MatchResult};
 ghost use Rattle.std.specs.List.Sorted.{IsStrictlySortedBy};
 ghost use Rattle.g_diagram.specs.declared.place.Break.{Break as TheBreak};
-ghost use Rattle.g_hier.specs.Answer.{Links, IsTooLarge};
+ghost use Rattle.g_hier.specs.Answer.{Links};
 ghost use Rattle.g_hier.specs.Outlines.{number_of, outlines_of};
 ghost use Rattle.g_infer.specs.Answer.{IsTyped};
 ghost use Rattle.g_typing.specs.Breaks.{TypeBreak};
@@ -12,6 +12,7 @@ ghost use Rattle.g_wires.specs.Breaks.{IsWiring};
 ghost use Rattle.g_check.specs.Checked.{IsChecked, main_break};
 ghost use Rattle.g_check.specs.Parts.{LinkBreak, Tells};
 
+use g_breaks::listed;
 use g_diagram::{Break, Hierarchy, Place};
 use g_hier::{LinkRefused, Linked, link};
 use g_infer::infer::infer;
@@ -19,7 +20,6 @@ use g_infer::{InferRefused, Typed};
 use g_line_breaks::next;
 use g_lists::List;
 use g_types::Name;
-use g_breaks::listed;
 use g_wires::{BreakList, wiring};
 use std::alloc::{AllocError, Global};
 

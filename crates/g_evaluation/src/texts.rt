@@ -1,6 +1,6 @@
 //! The number of a text.
 
-ghost use Rattle.std.specs.Prelude.{◌≡◌, ◌<◌, ◌^◌, ◌≤◌, IfOk, length, pos, OnSome, map};
+ghost use Rattle.std.specs.Prelude.{◌≡◌, ◌<◌, IfOk};
 ghost use Rattle.g_operations.specs.Strings as spec;
 
 use crate::outputs::two;

@@ -1,11 +1,11 @@
 //! Selectors of a branch.
 
-ghost use Rattle.std.specs.Prelude.{◌≡◌, ◌++◌, ◌∷◌, IfOk};
+ghost use Rattle.std.specs.Prelude.{◌≡◌, IfOk};
 ghost use Rattle.g_grammar.specs.Grammar.{read, take, bind, loop, or_else};
 ghost use Rattle.g_grammar.specs.Reads.{Gives, Turns};
 ghost use Rattle.g_words.specs.Operations.{lookup};
 ghost use Rattle.g_syntax.specs.Words.{comma_or_eol};
-ghost use Rattle.g_syntax.specs.Nodes.{selector_words, selector_first, dots, range_rest, selector_rest, selector_item, further_selectors, selectors};
+ghost use Rattle.g_syntax.specs.Nodes.{selector_words, selector_first, dots, range_rest, selector_rest, selector_item, selectors};
 
 use crate::marks::comma_or_eol;
 use crate::read::{Read, push};

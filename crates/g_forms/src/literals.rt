@@ -1,6 +1,6 @@
 //! Literals.
 
-ghost use Rattle.std.specs.Prelude.{◌≡◌, ◌++◌, ◌∷◌, true, false, IfOk};
+ghost use Rattle.std.specs.Prelude.{◌≡◌, true, false, IfOk};
 ghost use Rattle.g_grammar.specs.Grammar.{read, take, loop, bind};
 ghost use Rattle.g_grammar.specs.Reads.{Gives, Turns, with_front, fronts};
 ghost use Rattle.g_words.specs.Operations.{lookup};

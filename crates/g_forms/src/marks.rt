@@ -1,6 +1,5 @@
 //! Marks and the ends of lines.
 
-ghost use Rattle.std.specs.Prelude.{◌≡◌};
 ghost use Rattle.g_grammar.specs.Grammar.{read, take};
 ghost use Rattle.g_grammar.specs.Reads.{Gives, Passes};
 ghost use Rattle.g_syntax.specs.Words.{eol, arrow, feeds, bar, open_paren, close_paren, close_bracket, close_brace, comma_or_brace, comma_or_bracket, comma_or_eol, equals_or_arrow};

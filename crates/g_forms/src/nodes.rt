@@ -1,6 +1,5 @@
 //! Nodes on one line.
 
-ghost use Rattle.std.specs.Prelude.{◌≡◌};
 ghost use Rattle.g_grammar.specs.Grammar.{read};
 ghost use Rattle.g_grammar.specs.Reads.{Gives};
 ghost use Rattle.g_syntax.specs.Nodes.{operation_rest, plain_rest};

@@ -1,7 +1,6 @@
 //! Operands.
 
-ghost use Rattle.std.specs.Prelude.{◌≡◌, ◌∷◌};
-ghost use Rattle.g_grammar.specs.Grammar.{read, take, loop, bind, or_else};
+ghost use Rattle.g_grammar.specs.Grammar.{read, take, bind, or_else};
 ghost use Rattle.g_grammar.specs.Reads.{Gives, Turns, fronts};
 ghost use Rattle.g_syntax.specs.Words.{wire, eol, arrow_or_eol};
 ghost use Rattle.g_syntax.specs.Borders.{wires_to, item_or_end, outputs, operands, last_wire, to_wire, across, turned, through};

@@ -1,7 +1,7 @@
 //! Types.
 
-ghost use Rattle.std.specs.Prelude.{◌≡◌, ◌++◌, Some, None, true};
-ghost use Rattle.g_grammar.specs.Grammar.{read, take};
+ghost use Rattle.std.specs.Prelude.{◌≡◌, Some, None, true};
+ghost use Rattle.g_grammar.specs.Grammar.{read};
 ghost use Rattle.g_grammar.specs.Reads.{Gives, with_front};
 ghost use Rattle.g_words.specs.Operations.{lookup};
 ghost use Rattle.g_syntax.specs.Words.{type_words};

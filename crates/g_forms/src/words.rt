@@ -1,6 +1,5 @@
 //! Names, words of the language and numbers within bounds.
 
-ghost use Rattle.std.specs.Prelude.{◌≡◌, is_some};
 ghost use Rattle.g_grammar.specs.Grammar.{read, take};
 ghost use Rattle.g_grammar.specs.Reads.{Gives, Passes};
 ghost use Rattle.g_syntax.specs.Words.{word, name, text, wire, number, pool_size, field_number, queue_size, version};

@@ -1,9 +1,9 @@
 //! Which nodes of a graph lead to themselves.
 
-ghost use Rattle.std.specs.Prelude.{◌≡◌, ◌⊎◌, ◌++◌, ◌∷◌, [], ℕ, true, false, ◌<◌, ◌≤◌, length, take, IfSome, IfOk, OnOk, IsTrue, slice_get, Some};
+ghost use Rattle.std.specs.Prelude.{◌≡◌, ◌⊎◌, true, false, ◌<◌, length, IfSome, IfOk, IsTrue, slice_get, Some};
 ghost use Rattle.g_diagram.specs.Leads.{Leads};
-ghost use Rattle.g_graph.specs.Graph.{has, has_edge, InRange, is_marked, TellsCycles, Enters, Leaves, Turns, Shown};
-ghost use Rattle.g_graph.specs.Hints.{is_on, rank_of, root_of, near_of, far_of, NodeShown, AreShown, RowFalls, StepFalls};
+ghost use Rattle.g_graph.specs.Graph.{has, has_edge, InRange, TellsCycles, Enters, Leaves, Turns};
+ghost use Rattle.g_graph.specs.Hints.{is_on, root_of, near_of, far_of, NodeShown, AreShown, RowFalls, StepFalls};
 
 use crate::find::guess;
 use crate::hint::Hint;

@@ -1,8 +1,8 @@
 //! What a graph's edges lead to.
 
-ghost use Rattle.std.specs.Prelude.{◌≡◌, ◌↔◌, ℕ, true, false, ◌+◌, ◌<◌, ◌||◌, ◌==◌, length, IfOk, OnOk, vec_len};
+ghost use Rattle.std.specs.Prelude.{◌≡◌, ℕ, true, false, ◌+◌, ◌<◌, ◌||◌, ◌==◌, length, IfOk, OnOk};
 ghost use Rattle.g_diagram.specs.Leads.{Leads};
-ghost use Rattle.g_graph.specs.Graph.{Graph, has, has_edge, RowInRange, InRange, is_marked, unmarked, stacked, is_fresh};
+ghost use Rattle.g_graph.specs.Graph.{has, has_edge, RowInRange, InRange, is_marked, unmarked, stacked, is_fresh};
 
 use std::alloc::{AllocError, Global};
 

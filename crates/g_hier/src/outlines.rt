@@ -1,11 +1,11 @@
 //! The outlines of a hierarchy's VIs, with the numbers of the VIs that they call.
 
-ghost use Rattle.std.specs.Prelude.{◌≡◌, ◌↔◌, ◌<◌, ◌++◌, ℕ, List, map, length, All, IsTrue, IfOk, OnOk};
+ghost use Rattle.std.specs.Prelude.{◌≡◌, ◌↔◌, ◌<◌, ◌++◌, ℕ, List, map, All, IsTrue, IfOk, OnOk};
 ghost use Rattle.std.specs.BTreeMap.{get_by};
 ghost use Rattle.std.specs.Cmp.Lexicographic.{slice_cmp};
 ghost use Rattle.std.specs.Ordering.{nat_cmp};
 ghost use Rattle.g_hier.specs.Outlines as spec;
-ghost use Rattle.g_table.specs.Seen.{seen, seen_kind};
+ghost use Rattle.g_table.specs.Seen.{seen_kind};
 ghost use Rattle.g_hier.specs.Numbers.{first_number};
 
 use crate::graph::number;

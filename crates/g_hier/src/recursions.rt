@@ -1,6 +1,6 @@
 //! Rule 19: the call lines that lead back to the VI that holds them.
 
-ghost use Rattle.std.specs.Prelude.{◌≡◌, ◌+◌, ◌++◌, length, take, IfOk, OnOk};
+ghost use Rattle.std.specs.Prelude.{◌≡◌, ◌+◌, ◌++◌, length, IfOk, OnOk};
 ghost use Rattle.g_graph.specs.Graph.{is_marked};
 ghost use Rattle.g_hier.specs.Outlines.{AreKnown};
 ghost use Rattle.g_breaks.specs.Breaks.{ListsEach};

@@ -1,10 +1,9 @@
 //! The data spaces in link order.
 
-ghost use Rattle.std.specs.Prelude.{◌≡◌, ◌<◌, ◌+◌, ◌++◌, ◌∷◌, [], ℕ, Bool, true, false, map, reverse, length, IfOk, OnOk, MatchOption, Some, None, slice_get};
-ghost use Rattle.std.specs.BTreeSet.{BTreeSet as TheSet, contains};
+ghost use Rattle.std.specs.Prelude.{◌≡◌, ◌<◌, ◌+◌, ◌++◌, ◌∷◌, [], ℕ, map, reverse, IfOk, OnOk, MatchOption, Some, None, slice_get};
+ghost use Rattle.std.specs.BTreeSet.{contains};
 ghost use Rattle.std.specs.Ordering.{nat_cmp};
-ghost use Rattle.g_hier.specs.declared.linked.Space.{Space as TheSpace};
-ghost use Rattle.g_hier.specs.Outlines.{AreKnown, calls_at};
+ghost use Rattle.g_hier.specs.Outlines.{calls_at};
 ghost use Rattle.g_hier.specs.LinkOrder.{system_for, placed_by, entered_by, main_placed, AreInLinkOrder, with_vi, has_vi, vis_after};
 ghost use Rattle.g_hier.specs.Walking.{space_cmp, pool_placed, unmet};
 

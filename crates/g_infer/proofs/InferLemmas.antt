@@ -1,26 +1,25 @@
 -- The types of a hierarchy and its breaks, from what is found of its VIs.
-use Rattle.std.proofs.Common.{◌≡◌, ⊎_elim, ℕ, zero, suc, ◌+◌, ◌<◌, ◌≤◌, ◌==◌, true, false, cond, ◌&&◌, List, [], ◌∷◌, ◌++◌, map, length, refl, ap, sym, ◌∙◌, subst, append_assoc, length-append, arith}
+use Rattle.std.proofs.Common.{◌≡◌, ⊎_elim, ℕ, zero, suc, ◌+◌, ◌<◌, ◌≤◌, ◌==◌, true, cond, ◌&&◌, List, [], ◌∷◌, ◌++◌, map, length, refl, ap, sym, ◌∙◌, subst, append_assoc, length-append, arith}
 use Rattle.std.specs.Prelude.{Option, Some, None, slice_get}
 use Rattle.std.specs.declared.cmp.Ordering.{Ordering}
 use Rattle.std.specs.declared.cmp.Ordering.TheVariants.{Less, Equal, Greater}
 use Rattle.std.specs.Ordering.{ordering_then, nat_cmp, is_eq}
 use Rattle.std.specs.Cmp.{unsigned_tied, eq_by_cmp_equiv, both_ways}
 use Rattle.std.specs.Cmp.Lexicographic.{slice_cmp}
-use Rattle.std.specs.List.{Contains, list_all, AllByRecursion}
+use Rattle.std.specs.List.{Contains}
 use Rattle.std.specs.List.Sorted.{IsStrictlySortedBy}
 use Rattle.std.specs.Map.{lookup}
 use Rattle.std.specs.Option.{option_map}
 use Rattle.std.specs.Str.{bytes_eq}
 use Rattle.std.proofs.lemmas.List.{append-nil}
 use Rattle.std.proofs.lemmas.Option.{slice_get_within}
-use Rattle.std.proofs.lemmas.List.Elements.{recursion_from_All, Contains-append_left, Contains-append_right, Contains-append_cases}
+use Rattle.std.proofs.lemmas.List.Elements.{Contains-append_left, Contains-append_right, Contains-append_cases}
 use Rattle.std.proofs.lemmas.Map.Text.{is_eq-slice_cmp}
 use Rattle.std.proofs.lemmas.Slice.Eq.{bytes_eq-Decides}
 use Rattle.std.proofs.lemmas.Map.Views.{Contains-from_any, list_any-from_Contains}
 use denote.Ref.{Bor}
 use mathlib.Core.Path.{fun_ext}
 use Rattle.g_types.specs.declared.ty.Ty.{Ty}
-use Rattle.g_line_breaks.proofs.QueueLemmas.{same_type-same}
 use Rattle.g_diagram.specs.declared.hierarchy.Hierarchy.{Hierarchy}
 use Rattle.g_diagram.specs.declared.hierarchy.Vi.{Vi}
 use Rattle.g_diagram.specs.declared.panel.PanelItem.{PanelItem}
@@ -29,18 +28,16 @@ use Rattle.g_diagram.specs.Leads.{Leads}
 use Rattle.g_diagram.specs.Lines.{Entry, entries_of}
 use Rattle.g_diagram.specs.Ports.{first_vi, ports_of, has_wire}
 use Rattle.g_typing.specs.Types.{Types}
-use Rattle.g_typing.specs.Typing.{Given, Callees, Objects, HasGiven, AreTypes, IsTyping, panel_type, panel_of, called_panel}
-use Rattle.g_typing.specs.Breaks.{TypeBreak, breaks_with}
+use Rattle.g_typing.specs.Typing.{Callees, Objects, IsTyping, panel_type, panel_of, called_panel}
+use Rattle.g_typing.specs.Breaks.{TypeBreak, breaks_by, breaks_with}
 use Rattle.g_typing.proofs.Agreed.{Typed as IsTypingBy, one_typing}
 use Rattle.g_typable.specs.Typable.{IsTypable}
 use Rattle.g_breaks.specs.Breaks.{break_cmp, has_break, ListsEach}
 use Rattle.g_breaks.proofs.Ordered.{break_total, same_break}
-use Rattle.g_wires.proofs.Found.{and_both}
 use Rattle.g_infer.specs.declared.typed.SourceType.{SourceType}
 use Rattle.g_infer.specs.declared.typed.Typed.{Typed}
 use Rattle.g_infer.specs.declared.typed.ViTypes.{ViTypes}
 use Rattle.g_infer.specs.Answer.{types_in, HasTyping, IsTyped}
-use Rattle.g_infer.specs.Checked.{same_known, has_given, given_by, are_types, IsJudged}
 use Rattle.g_infer.specs.Inferred.{told_source, AreTypings, all_breaks, Inferred}
 use Rattle.g_infer.specs.Known.{Table, types_of}
 use Rattle.g_infer.specs.Panels.{or_nothing}
@@ -92,29 +89,6 @@ told_entries (e ∷ es) d name =
 pub types_told : (table : Table) (sources : List SourceType) → sources ≡ map told_source table.entries → (d : ℕ) (name : List ℕ) → types_in sources d name ≡ types_of table d name
 types_told table sources e d name = ap (λ (ss : List SourceType). types_in ss d name) e ∙ told_entries table.entries d name
 
--- ---- typings pass the test
-
-same_itself : (t : Option Ty) → same_known t t ≡ true
-same_itself None = refl
-same_itself (Some t) = same_type-same t
-
-pass_all : (M : Types) (gs : List Given) → AllByRecursion (HasGiven M) gs → list_all (has_given M) gs ≡ true
-pass_all M [] h = refl
-pass_all M (g ∷ gs) h =
-    and_both (has_given M g) (list_all (has_given M) gs) (ap (λ t. same_known t g.type) h.0 ∙ same_itself g.type) (pass_all M gs h.1)
-
-pub typing_passes : (called : Callees) (panel : List PanelItem) (es : List Entry) (M : Types) → AreTypes called panel es M → are_types called (panel_type panel) panel es M ≡ true
-typing_passes called panel es M h =
-    pass_all M (given_by called (panel_type panel) panel es M) (recursion_from_All (HasGiven M) (given_by called (panel_type panel) panel es M) h)
-
--- so what is told by a typing is told
-pub never_none : {X : Type 0} (called : Callees) (objects : Objects) (panel : List PanelItem) (es : List Entry) (M : Types) (v : ℕ) (f : X → List Break) (o : Option X) → objects ≡ panel_type panel
-    → IsTypingBy called panel es M → IsJudged called objects panel es M v (option_map f o) → o ≡ None → ⊥
-never_none called objects panel es M v f (Some x) eo typing h e = cc
-never_none called objects panel es M v f None eo typing h e =
-    let yes : are_types called objects panel es M ≡ true = ap (λ (os : Objects). are_types called os panel es M) eo ∙ typing_passes called panel es M typing.given in
-    let no : true ≡ false = sym yes ∙ h in cc
-
 -- ---- the same types, nodes and panels by other names
 
 types_same : (sources : List SourceType) (M : Types) → ((d : ℕ) (name : List ℕ) → types_in sources d name ≡ M d name) → M ≡ types_in sources
@@ -126,9 +100,10 @@ typing_told called panel es sources M h typing =
     let P : Types → Type 0 = λ types. IsTypingBy called panel es types in
     subst P (types_same sources M h) typing
 
-pub breaks_told : (called : Callees) (panel : List PanelItem) (es : List Entry) (sources : List SourceType) (M : Types) (v : ℕ) (old new : List Break)
-    → ((d : ℕ) (name : List ℕ) → types_in sources d name ≡ M d name) → new ≡ old ++ breaks_with called panel M v es → new ≡ old ++ breaks_with called panel (types_in sources) v es
-breaks_told called panel es sources M v old new h e = e ∙ ap (λ (types : Types). old ++ breaks_with called panel types v es) (types_same sources M h)
+pub breaks_told : (called : Callees) (objects : Objects) (panel : List PanelItem) (es : List Entry) (sources : List SourceType) (M : Types) (v : ℕ) (old new : List Break) → objects ≡ panel_type panel
+    → ((d : ℕ) (name : List ℕ) → types_in sources d name ≡ M d name) → new ≡ old ++ breaks_by called objects panel M v es → new ≡ old ++ breaks_with called panel (types_in sources) v es
+breaks_told called objects panel es sources M v old new eo h e =
+    e ∙ ap (λ (os : Objects). old ++ breaks_by called os panel M v es) eo ∙ ap (λ (types : Types). old ++ breaks_with called panel types v es) (types_same sources M h)
 
 pub typable_at : (called : Callees) (panel own : List PanelItem) (es all : List Entry) → panel ≡ own → es ≡ all → IsTypable called own all → IsTypable called panel es
 typable_at called panel own es all ep ee h =

@@ -10,5 +10,4 @@ pub mod PanelLemmas
 pub mod PlaceLemmas
 pub mod ReadLemmas
 pub mod Sweeping
-pub mod Typings
 pub mod WalkLemmas

@@ -2,7 +2,6 @@ pub mod Known
 pub mod Calls
 pub mod Panels
 pub mod Given
-pub mod Checked
 pub mod Gaps
 pub mod Steps
 pub mod Reads

@@ -1,9 +1,8 @@
 //! Which steps give what others read.
 
-ghost use Rattle.std.specs.Prelude.{◌≡◌, ◌||◌, ◌&&◌, ◌==◌, ℕ, List, map, length, slice_get, IfOk, OnOk};
+ghost use Rattle.std.specs.Prelude.{◌≡◌, ◌||◌, ◌&&◌, ◌==◌, ℕ, List, map, length, IfOk, OnOk};
 ghost use Rattle.std.specs.List.{list_any};
 ghost use Rattle.g_graph.specs.Graph.{InRange, has, row_of};
-ghost use Rattle.g_typing.specs.Typing.{Callees, Objects};
 ghost use Rattle.g_infer.specs.Feeding.{IsFeeding, IsReadersOf, IsRowOf, is_at, is_reader, leads_to};
 ghost use Rattle.g_infer.specs.Given.{seen_given};
 ghost use Rattle.g_infer.specs.Reads.{seen_read};

@@ -4,7 +4,7 @@ ghost use Rattle.std.specs.Prelude.{◌≡◌, ◌++◌, ◌∷◌, [], map, IfO
 ghost use Rattle.std.specs.Option.{option_copied};
 ghost use Rattle.g_operations.specs.Kinds as kinds;
 ghost use Rattle.g_table.specs.Seen.{seen, seen_arm, seen_part, seen_kind};
-ghost use Rattle.g_typing.specs.Rows.{is_none_of, has_rows};
+ghost use Rattle.g_typing.specs.Rows.{has_rows};
 ghost use Rattle.g_typing.specs.Types as types_spec;
 ghost use Rattle.g_typing.specs.Typing as spec;
 ghost use Rattle.g_infer.specs.Given.{seen_given};

@@ -1,6 +1,6 @@
 //! The types of all wires of a hierarchy.
 
-ghost use Rattle.std.specs.Prelude.{◌≡◌, ◌++◌, ℕ, List as TheList, [], length, map, Some, slice_get, IfOk, IfErr, OnOk, MatchResult};
+ghost use Rattle.std.specs.Prelude.{◌≡◌, ◌++◌, ℕ, List as TheList, [], length, map, Some, slice_get, IfOk, IfErr, MatchResult};
 ghost use Rattle.g_diagram.specs.declared.hierarchy.Vi.{Vi as TheVi};
 ghost use Rattle.g_diagram.specs.Leads.{Leads};
 ghost use Rattle.g_diagram.specs.Lines.{entries_of};
@@ -16,19 +16,19 @@ ghost use Rattle.g_infer.specs.Inferred.{Inferred};
 ghost use Rattle.g_infer.specs.Known.{types_of};
 ghost use Rattle.g_infer.specs.Panels.{callees_in, objects_in};
 
-use crate::judge::judge;
 use crate::panels::{ObjectTypes, Panels, object_types, panels};
+use crate::passes::push_type_breaks;
 use crate::places::next;
 use crate::typed::{InferRefused, SourceType, Typed, ViTypes};
 use crate::types::WireTypes;
 use crate::walk::vi_types;
+use g_breaks::listed;
 use g_diagram::{Break, Hierarchy, PanelItem, Vi};
 use g_lists::List;
 use g_table::Entry;
 use g_table::table::table;
 use g_typable::typable_laws;
 use g_types::Name;
-use g_breaks::listed;
 use std::alloc::{AllocError, Global};
 
 /// The types as they are told.
@@ -43,28 +43,6 @@ fn listed_types<'a>(alloc: Global, types: WireTypes<'a>) -> Result<ViTypes, Allo
     Ok(ViTypes {
         sources: List::from_vec(sources),
     })
-}
-
-/// Adds the breaks of a VI with this panel and these nodes, by the types of its wires.
-fn push_told<'p, 'm>(
-    alloc: Global,
-    breaks: &mut Vec<Break>,
-    panels: &Panels<'p>,
-    objects: &ObjectTypes<'p>,
-    types: &WireTypes<'m>,
-    number: u32,
-    panel: &'m [PanelItem],
-    entries: &'m [Entry<'m>],
-) -> Result<(), AllocError>
-    requires objects { objects_in objects.now ≡ panel_type panel.now }
-    requires typing { IsTypingBy (callees_in panels.now) panel.now (map seen entries.now) (types_of types.now) }
-    ensures { OnOk result (breaks.new.items ≡ breaks.old.items ++ breaks_with (callees_in panels.now) panel.now (types_of types.now) number (map seen entries.now)) }
-{
-    let Some(told) = judge(alloc, panels, objects, types, number, panel, entries)? else {
-        unreachable!();
-    };
-    breaks.extend_from_slice(told.as_slice())?;
-    Ok(())
 }
 
 /// The types of the wires of a VI with this panel and these nodes, whose breaks are added.
@@ -83,7 +61,7 @@ fn infer_wires<'p, 'm>(
     ensures breaks { IfOk result (λ found. breaks.new.items ≡ breaks.old.items ++ breaks_with (callees_in panels.now) panel.now (types_in found.sources) number (map seen entries.now)) }
 {
     let types = vi_types(alloc, panels, objects, panel, entries)?;
-    push_told(
+    push_type_breaks(
         alloc, breaks, panels, objects, &types, number, panel, entries,
     )?;
     let found = listed_types(alloc, types)?;

@@ -2,13 +2,11 @@
 #![tactic(auto)]
 
 mod assigned;
-mod check;
 mod feeds;
 mod gaps;
 mod gives;
 mod giving;
 pub mod infer;
-mod judge;
 mod kinds;
 mod literals;
 mod panels;

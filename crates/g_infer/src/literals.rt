@@ -1,6 +1,6 @@
 //! Rule 15: literals and selectors that aren't values of their type.
 
-ghost use Rattle.std.specs.Prelude.{◌≡◌, ◌++◌, ◌-ℤ◌, ◌&&◌, map, neg_ℤ, pos, IfOk, OnOk};
+ghost use Rattle.std.specs.Prelude.{◌≡◌, ◌++◌, ◌-ℤ◌, ◌&&◌, map, neg_ℤ, pos, OnOk};
 ghost use Rattle.std.specs.List.{list_all};
 ghost use Rattle.std.specs.Option.{option_copied};
 ghost use Rattle.g_types.specs.Rep as reps;

@@ -1,6 +1,6 @@
 //! Rule 16: the places at which the types of the inputs have no row.
 
-ghost use Rattle.std.specs.Prelude.{◌≡◌, ◌++◌, IfOk, OnOk, length};
+ghost use Rattle.std.specs.Prelude.{◌≡◌, ◌++◌, IfOk, OnOk};
 ghost use Rattle.std.specs.Option.{option_copied};
 ghost use Rattle.g_operations.specs.Kinds as kinds;
 ghost use Rattle.g_operations.specs.Rows as rows;

@@ -1,6 +1,6 @@
 //! Reading a whole input.
 
-ghost use Rattle.std.specs.Prelude.{◌≡◌, ◌+◌, ◌^◌, ◌<◌, ◌≤◌, length, IfOk, OnOk, IsErrOf};
+ghost use Rattle.std.specs.Prelude.{◌+◌, ◌^◌, ◌<◌, ◌≤◌, length, IfOk, OnOk, IsErrOf};
 ghost use Rattle.std.specs.Io.KnownBytes.{IsAtEnd};
 ghost use Rattle.g_io.specs.Causes.{Rose};
 ghost use Rattle.g_io.specs.Reading.{IsAllOf, IsLonger, IsTaken};

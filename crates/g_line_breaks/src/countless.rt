@@ -1,6 +1,6 @@
 //! Rule 13: a `for` whose count is unwired needs an `index` line.
 
-ghost use Rattle.std.specs.Prelude.{◌≡◌, ◌++◌, ◌∷◌, [], map, OnOk};
+ghost use Rattle.std.specs.Prelude.{◌≡◌, ◌++◌, map, OnOk};
 ghost use Rattle.std.specs.List.{list_any};
 ghost use Rattle.g_table.specs.Seen as table;
 ghost use Rattle.g_line_breaks.specs.Spots.{break};

@@ -1,6 +1,6 @@
 //! Rules 5 and 9: operations have the number of inputs and outputs that is theirs, and calls name VIs.
 
-ghost use Rattle.std.specs.Prelude.{◌≡◌, ◌++◌, ◌∷◌, [], ◌<◌, ℕ, map, length, OnOk};
+ghost use Rattle.std.specs.Prelude.{◌≡◌, ◌++◌, ◌<◌, map, OnOk};
 ghost use Rattle.std.specs.Option.{option_map};
 ghost use Rattle.g_table.specs.Seen as table;
 ghost use Rattle.g_line_breaks.specs.Spots.{break};

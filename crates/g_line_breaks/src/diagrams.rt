@@ -1,6 +1,6 @@
 //! Sets of diagrams, by their lines.
 
-ghost use Rattle.std.specs.Prelude.{◌≡◌, ◌||◌, ◌==◌, ◌&&◌, ℕ, false, map, IfOk, OnOk};
+ghost use Rattle.std.specs.Prelude.{◌≡◌, ◌||◌, ◌==◌, ℕ, false, map, IfOk, OnOk};
 ghost use Rattle.std.specs.List.{list_any};
 ghost use Rattle.g_table.specs.Seen as table;
 ghost use Rattle.g_line_breaks.specs.Lines as spec;

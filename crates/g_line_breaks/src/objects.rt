@@ -1,6 +1,6 @@
 //! Rule 8: `read` and `write` name objects of their VI's panel.
 
-ghost use Rattle.std.specs.Prelude.{◌≡◌, ◌++◌, ◌∷◌, [], ℕ, List as TheList, map, OnOk, IfOk};
+ghost use Rattle.std.specs.Prelude.{◌≡◌, ◌++◌, ℕ, List as TheList, map, OnOk, IfOk};
 ghost use Rattle.g_table.specs.Seen as table;
 ghost use Rattle.g_line_breaks.specs.Spots.{break};
 ghost use Rattle.g_line_breaks.specs.Lines as spec;

@@ -1,6 +1,6 @@
 //! Rule 14: lines that obtain a queue of one name agree on its size and type.
 
-ghost use Rattle.std.specs.Prelude.{◌≡◌, ◌++◌, ◌∷◌, [], ℕ, List as TheList, map, IfOk, OnOk};
+ghost use Rattle.std.specs.Prelude.{◌≡◌, ◌++◌, ℕ, List as TheList, map, IfOk, OnOk};
 ghost use Rattle.std.specs.Option.{option_map, option_or};
 ghost use Rattle.g_diagram.specs.Lines.{entries_of};
 ghost use Rattle.g_types.specs.Same.{same_type};

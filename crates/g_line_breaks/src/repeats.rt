@@ -1,13 +1,11 @@
 //! Rule 7: names that were used before.
 
-ghost use Rattle.std.specs.Prelude.{◌≡◌, ◌+◌, ◌++◌, ◌∷◌, [], ℕ, List as TheList, map, OnOk, if◌then◌else◌};
-ghost use Rattle.std.specs.List.{list_any};
+ghost use Rattle.std.specs.Prelude.{◌≡◌, ◌+◌, ◌++◌, ◌∷◌, [], OnOk, if◌then◌else◌};
 ghost use Rattle.g_line_breaks.specs.Spots.{break};
 ghost use Rattle.g_line_breaks.specs.Lists.{renamed_items, renamed_vis};
 ghost use Rattle.g_line_breaks.specs.Lines.{spot_at};
-ghost use Rattle.g_line_breaks.specs.Names.{has_name};
 
-use crate::names::{Names, add_name, is_among};
+use crate::names::{add_name, is_among};
 use crate::objects::panel_name;
 use crate::place::{next, push_at};
 use g_diagram::{Break, PanelItem, Vi};

@@ -1,7 +1,7 @@
 //! Rule 11: what the branches of a case give.
 
-ghost use Rattle.std.specs.Prelude.{◌≡◌, ◌+◌, ◌++◌, ◌∷◌, [], ℕ, map, OnOk, if◌then◌else◌};
-ghost use Rattle.std.specs.List.{list_any, flat_map};
+ghost use Rattle.std.specs.Prelude.{◌≡◌, ◌+◌, ◌++◌, ◌∷◌, [], map, OnOk, if◌then◌else◌};
+ghost use Rattle.std.specs.List.{list_any};
 ghost use Rattle.g_table.specs.Seen as table;
 ghost use Rattle.g_line_breaks.specs.Spots.{break};
 ghost use Rattle.g_line_breaks.specs.Lines as spec;

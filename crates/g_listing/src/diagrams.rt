@@ -1,6 +1,6 @@
 //! Nodes, and the diagrams inside structures.
 
-ghost use Rattle.std.specs.Prelude.{◌≡◌, ◌∷◌, ◌++◌, codes};
+ghost use Rattle.std.specs.Prelude.{◌≡◌, codes};
 ghost use Rattle.g_grammar.specs.Grammar.{read, take, bind, loop, or_else, exactly};
 ghost use Rattle.g_grammar.specs.Reads.{Gives, Passes, Turns, sum_of};
 ghost use Rattle.g_syntax.specs.Words.{wire, word, eol, word_in};
@@ -16,7 +16,7 @@ use g_forms::{
 };
 use g_grammar::{Stop, Turn};
 use g_lists::List;
-use g_syntax::{Border, NodeWord, SelectorFirst, StructureWord, Until};
+use g_syntax::{Border, NodeWord, StructureWord, Until};
 use g_tokens::Token;
 use std::alloc::Global;
 

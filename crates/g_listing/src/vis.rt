@@ -1,6 +1,5 @@
 //! VIs.
 
-ghost use Rattle.std.specs.Prelude.{◌≡◌, ◌∷◌, ◌++◌};
 ghost use Rattle.g_grammar.specs.Grammar.{read, take, bind, loop, or_else};
 ghost use Rattle.g_grammar.specs.Reads.{Gives, Turns};
 ghost use Rattle.g_syntax.specs.Listing.{body_first, body_item, nodes_after, vi_rest, vi_word, at_end, vi_or_end, vis, listing};

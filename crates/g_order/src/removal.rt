@@ -1,8 +1,8 @@
 //! An order by taking away edges: a node is put into it once no edge to it is left.
 
-ghost use Rattle.std.specs.Prelude.{◌≡◌, ℕ, ◌+◌, ◌<◌, ◌≤◌, ◌==◌, cond, length, sum, IfOk, OnOk, IfSome, IsNone, [], IsTrue};
+ghost use Rattle.std.specs.Prelude.{◌≡◌, ℕ, ◌+◌, ◌<◌, ◌≤◌, ◌==◌, cond, length, sum, IfOk, OnOk, IfSome, IsNone, []};
 ghost use Rattle.std.specs.List.{list_all};
-ghost use Rattle.g_graph.specs.Graph.{row_of, RowInRange, InRange};
+ghost use Rattle.g_graph.specs.Graph.{RowInRange, InRange};
 ghost use Rattle.g_order.specs.Order.{times, at, free, waits, IsOrder, HasCycle, row_at};
 
 use std::alloc::{AllocError, Global};

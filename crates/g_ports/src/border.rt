@@ -1,8 +1,8 @@
 //! The operands of each form of line.
 
-ghost use Rattle.std.specs.Prelude.{◌≡◌, ◌+◌, ◌++◌, ◌∷◌, [], map, IfOk, OnOk, Some, false};
+ghost use Rattle.std.specs.Prelude.{◌≡◌, ◌+◌, ◌++◌, map, IfOk, OnOk, false};
 ghost use Rattle.g_diagram.specs.Operands as spec;
-ghost use Rattle.g_ports.specs.Seen.{seen_side, seen_operand, form_of};
+ghost use Rattle.g_ports.specs.Seen.{seen_operand, form_of};
 
 use crate::operand::{Operand, Side, consumer, free_consumer, free_source, source};
 use g_diagram::{Tunnel, Wire};

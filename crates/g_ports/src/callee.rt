@@ -1,14 +1,10 @@
 //! What calls need to know of the VIs that they call.
 
-ghost use Rattle.std.specs.Prelude.{◌≡◌, ◌+◌, ◌++◌, ℕ, List as TheList, map, IfOk, OnOk};
+ghost use Rattle.std.specs.Prelude.{◌≡◌, ℕ, List as TheList, IfOk, OnOk};
 ghost use Rattle.g_diagram.specs.Ports.{required_controls, first_vi};
-ghost use Rattle.g_diagram.specs.Operands as spec;
-ghost use Rattle.g_ports.specs.Callees.{required_in, required_of, flags_of, is_free_by, freedom_by};
-ghost use Rattle.g_ports.specs.Seen.{seen_operand};
+ghost use Rattle.g_ports.specs.Callees.{required_in, required_of, flags_of};
 
-use crate::operand::{Operand, Side};
-use g_diagram::{PanelItem, Vi, Wire};
-use g_types::Name;
+use g_diagram::{PanelItem, Vi};
 use std::alloc::{AllocError, Global};
 use std::collections::BTreeMap;
 

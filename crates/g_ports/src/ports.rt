@@ -1,9 +1,8 @@
 //! The ports of a VI.
 
-ghost use Rattle.std.specs.Prelude.{◌≡◌, ◌+◌, ◌++◌, ◌∷◌, [], ℕ, map, IfOk, OnOk, slice_get};
+ghost use Rattle.std.specs.Prelude.{◌≡◌, ◌+◌, ◌++◌, ◌∷◌, [], map, IfOk, OnOk, slice_get};
 ghost use Rattle.std.specs.Option.{option_map, option_copied};
 ghost use Rattle.g_diagram.specs.Operands as spec;
-ghost use Rattle.g_diagram.specs.Lines.{entries_of};
 ghost use Rattle.g_diagram.specs.Ports.{ports_in};
 ghost use Rattle.g_table.specs.Seen as table;
 ghost use Rattle.g_ports.specs.Seen.{seen, seen_operand};

@@ -1,6 +1,6 @@
 //! The ports of lines.
 
-ghost use Rattle.std.specs.Prelude.{◌≡◌, ◌+◌, ◌++◌, ◌∷◌, [], ℕ, map, IfOk, OnOk, None};
+ghost use Rattle.std.specs.Prelude.{◌≡◌, ◌+◌, ◌++◌, [], map, IfOk, OnOk, None};
 ghost use Rattle.g_diagram.specs.Operands as spec;
 ghost use Rattle.g_diagram.specs.Ports.{port, ports_on, ports_in};
 ghost use Rattle.g_ports.specs.Seen.{seen, seen_side, seen_operand, form_of};

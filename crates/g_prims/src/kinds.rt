@@ -1,6 +1,6 @@
 //! Kinds of types, as operations tell them apart.
 
-ghost use Rattle.std.specs.Prelude.{◌≡◌, IfOk, map};
+ghost use Rattle.std.specs.Prelude.{◌≡◌, IfOk};
 ghost use Rattle.std.specs.List.{list_any};
 ghost use Rattle.g_operations.specs.Kinds as spec;
 ghost use Rattle.g_types.specs.Same.{same_type};

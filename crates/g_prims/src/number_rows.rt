@@ -1,6 +1,6 @@
 //! Rows of operations on numbers and Booleans.
 
-ghost use Rattle.std.specs.Prelude.{◌≡◌, IfOk, IfErr, Some, ◌∷◌, []};
+ghost use Rattle.std.specs.Prelude.{◌≡◌, IfOk, IfErr, Some};
 ghost use Rattle.g_operations.specs.Row.{read};
 ghost use Rattle.g_operations.specs.Rows as spec;
 ghost use Rattle.g_prims.specs.Refusals.{IsRefusal};

@@ -6,7 +6,7 @@ ghost use Rattle.g_operations.specs.Rows as spec;
 ghost use Rattle.g_prims.specs.Refusals.{IsRefusal};
 ghost use Rattle.g_values.specs.declared.primitive.Primitive.TheVariants as op;
 
-use crate::kinds::{is_num, is_same, is_str};
+use crate::kinds::{is_num, is_str};
 use crate::outs::{numbers, one, two};
 use crate::refusal::RowRefused;
 use g_types::{Rep, Ty, TyList};

@@ -1,6 +1,6 @@
 //! Literals, texts and the selectors of a case.
 
-ghost use Rattle.std.specs.Prelude.{◌≡◌, ◌<◌, ◌++◌, ◌∷◌, ℕ, List, OnOk, map};
+ghost use Rattle.std.specs.Prelude.{◌≡◌, ◌<◌, ◌++◌, ℕ, List, OnOk, map};
 ghost use Rattle.g_diagram.specs.Text as spec;
 ghost use Rattle.g_values.specs.Text as values;
 

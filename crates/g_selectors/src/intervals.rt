@@ -1,6 +1,6 @@
 //! Intervals of numbers that don't meet one another.
 
-ghost use Rattle.std.specs.Prelude.{◌≡◌, ◌+◌, ◌||◌, ℤ, ◌≤ℤ◌, true, false, IfSome, OnOk, OnSome};
+ghost use Rattle.std.specs.Prelude.{◌≡◌, ◌+◌, ◌||◌, ℤ, ◌≤ℤ◌, true, false, OnOk, OnSome};
 ghost use Rattle.std.specs.BTreeMap.{btree_map_len};
 ghost use Rattle.g_selectors.specs.Clashes.{meet};
 ghost use Rattle.g_selectors.specs.Taken.{AreApart, IsLastFrom, IsLeast, IsGreatest, Absorbs, Adds, meets_any};

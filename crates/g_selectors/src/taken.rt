@@ -1,7 +1,6 @@
 //! What the selectors of a case have named so far.
 
-ghost use Rattle.std.specs.Prelude.{◌≡◌, ◌||◌, ◌++◌, ◌∷◌, [], ℕ, List as TheList, IfOk, OnOk};
-ghost use Rattle.std.specs.List.{list_any};
+ghost use Rattle.std.specs.Prelude.{◌≡◌, ◌||◌, ◌++◌, [], ℕ, List as TheList, IfOk, OnOk};
 ghost use Rattle.std.specs.Str.{bytes_eq};
 ghost use Rattle.g_diagram.specs.declared.node.Selector.{Selector as TheSelector};
 ghost use Rattle.g_selectors.specs.Clashes as spec;

@@ -8,8 +8,7 @@ ghost use Rattle.g_table.specs.Seen.{seen, seen_arm, seen_part, seen_kind};
 
 use crate::count::{add, arm_count, give_count, node_count, nodes_count, number, part_count};
 use crate::entry::{Arm, Entry, Kind, Part};
-use g_diagram::{Branch, Diagram, Node, PanelItem, SequenceFrame, Tunnel, Vi};
-use g_lists::List;
+use g_diagram::{Branch, Node, PanelItem, SequenceFrame, Tunnel, Vi};
 use std::alloc::{AllocError, Global};
 
 fn push<'a>(

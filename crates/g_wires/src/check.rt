@@ -1,7 +1,6 @@
 //! The breaks of each VI.
 
-ghost use Rattle.std.specs.Prelude.{◌≡◌, ◌<◌, ◌^◌, ◌++◌, length, map, IfOk, OnOk, All};
-ghost use Rattle.std.specs.BTreeMap.{btree_map_len};
+ghost use Rattle.std.specs.Prelude.{◌≡◌, ◌<◌, ◌++◌, length, map, IfOk, OnOk};
 ghost use Rattle.g_ports.specs.Callees.{freedom_by};
 ghost use Rattle.g_diagram.specs.Lines.{entries_of};
 ghost use Rattle.g_table.specs.Seen as table;
@@ -10,9 +9,9 @@ ghost use Rattle.g_wires.specs.Checked.{ports_with, IsCoding, AddsCycles, Cycles
 ghost use Rattle.g_line_breaks.specs.Names.{known_by};
 
 use crate::coded::{Coded, code_all, wire_numbers};
-use g_breaks::listed;
 use crate::named::push_named;
 use crate::turns::{push_marked, turning_lines};
+use g_breaks::listed;
 use g_diagram::{Break, Hierarchy, Vi};
 use g_line_breaks::arities::{Arities, arities};
 use g_line_breaks::queues::{Queues, queues};

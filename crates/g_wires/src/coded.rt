@@ -1,9 +1,8 @@
 //! Ports whose wires are numbers.
 
-ghost use Rattle.std.specs.Prelude.{◌≡◌, ℕ, map, IfOk, OnOk, All, length};
-ghost use Rattle.std.specs.BTreeMap.{btree_map_len};
+ghost use Rattle.std.specs.Prelude.{◌≡◌, map, IfOk, OnOk, All};
 ghost use Rattle.g_ports.specs.declared.port.Port.{Port as ThePort};
-ghost use Rattle.g_wires.specs.Coding.{number_at, wire_at, code_by, has_wire_of, Numbers, IsBelow};
+ghost use Rattle.g_wires.specs.Coding.{wire_at, code_by, has_wire_of, Numbers};
 
 use g_ports::Port;
 use std::alloc::{AllocError, Global};

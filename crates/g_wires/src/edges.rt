@@ -1,7 +1,7 @@
 //! The graph of nodes and wires of a VI: a vertex for each line and each wire, an edge for each operand
 //! of a node.
 
-ghost use Rattle.std.specs.Prelude.{◌≡◌, ◌<◌, ◌≤◌, ◌+◌, ◌^◌, ◌&&◌, ◌||◌, ◌==◌, ℕ, false, length, IfOk, OnOk, IfSome, All};
+ghost use Rattle.std.specs.Prelude.{◌≡◌, ◌<◌, ◌≤◌, ◌+◌, ◌^◌, ◌&&◌, ◌||◌, ◌==◌, ℕ, false, length, IfOk, OnOk, All};
 ghost use Rattle.std.specs.List.{list_any};
 ghost use Rattle.g_graph.specs.Graph.{has_edge, InRange};
 ghost use Rattle.g_wires.specs.Marks.{is_edge, WireBelow, NodeBelow};

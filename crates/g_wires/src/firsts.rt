@@ -1,9 +1,9 @@
 //! Rule 2 over ports whose wires are numbers: a wire's sources after its first.
 
-ghost use Rattle.std.specs.Prelude.{◌≡◌, ◌<◌, ◌++◌, ◌∷◌, [], ◌||◌, ℕ, map, filter, length, IfOk, OnOk, All, Some, slice_index_or};
+ghost use Rattle.std.specs.Prelude.{◌≡◌, ◌<◌, ◌++◌, ◌||◌, ℕ, length, IfOk, OnOk, All, Some};
 ghost use Rattle.std.specs.List.{list_any};
 ghost use Rattle.g_wires.specs.declared.coded.Coded.{Coded as TheCoded};
-ghost use Rattle.g_wires.specs.Marks.{gives_before, is_lower, first_at, stands_before, is_after_first, follows_source, is_later_source, coded_breaks, WireBelow};
+ghost use Rattle.g_wires.specs.Marks.{gives_before, is_lower, first_at, stands_before, follows_source, is_later_source, coded_breaks, WireBelow};
 
 use crate::coded::Coded;
 use crate::marks::push_break;

@@ -1,7 +1,7 @@
 //! Rules 1 and 3 over ports whose wires are numbers: consumers without a source, and sources without a
 //! consumer.
 
-ghost use Rattle.std.specs.Prelude.{◌≡◌, ◌<◌, ◌++◌, ◌∷◌, [], ◌||◌, ℕ, map, filter, length, IfOk, OnOk, All, slice_index_or};
+ghost use Rattle.std.specs.Prelude.{◌≡◌, ◌<◌, ◌++◌, ◌∷◌, [], ◌||◌, ℕ, length, IfOk, OnOk, All};
 ghost use Rattle.std.specs.List.{list_any};
 ghost use Rattle.g_wires.specs.Marks.{gives, takes, is_marked, is_unmarked, lacks_mark, lacks_taker, has_no_source, has_no_consumer, coded_break, coded_breaks, WireBelow};
 

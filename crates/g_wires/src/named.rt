@@ -1,6 +1,6 @@
 //! The rules on names, over ports whose wires are numbers.
 
-ghost use Rattle.std.specs.Prelude.{◌≡◌, ◌++◌, ◌∷◌, [], map, filter, OnOk, All};
+ghost use Rattle.std.specs.Prelude.{◌≡◌, ◌++◌, OnOk, All};
 ghost use Rattle.g_wires.specs.Marks.{has_no_wire, coded_breaks, coded_named, WireBelow};
 
 use crate::coded::Coded;

@@ -1,7 +1,7 @@
 //! The words of operations, in one table that the reader and the printer of listings look up.
 #![tactic(auto)]
 
-ghost use Rattle.std.specs.Prelude.{◌≡◌, map};
+ghost use Rattle.std.specs.Prelude.{◌≡◌};
 ghost use Rattle.g_words.specs.Operations.{lookup, rows_of, row_named, operation_named};
 
 use g_diagram::SharedOp;

@@ -1,6 +1,6 @@
 //! What settings say of controls.
 
-ghost use Rattle.std.specs.Prelude.{◌≡◌, ℕ, List as Row, [], ◌∷◌, ◌++◌, map, IfOk, OnOk};
+ghost use Rattle.std.specs.Prelude.{◌≡◌, ℕ, List as Row, [], ◌∷◌, ◌++◌, IfOk, OnOk};
 ghost use Rattle.std.specs.Option.{option_copied};
 ghost use Rattle.grun.specs.Settings.{controls, control_values, find, spelled_value, value_for, given_from, item_values, own_value, value_or};
 ghost use Rattle.grun.specs.Views.{seen_control, seen_controls, types_in, values_in};

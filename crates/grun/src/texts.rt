@@ -1,8 +1,7 @@
 //! The texts of refusals.
 
-ghost use Rattle.std.specs.Prelude.{◌≡◌, ◌++◌, ◌∷◌, [], IfOk, OnOk};
+ghost use Rattle.std.specs.Prelude.{◌≡◌, ◌++◌, IfOk, OnOk};
 ghost use Rattle.std.specs.Fmt.{decimal};
-ghost use Rattle.std.specs.String.{string_bytes};
 ghost use Rattle.grun.specs.Texts.{line_of, spot_text, vi_name, place_text, break_text, breaks_text};
 
 use g_diagram::{Break, Place, Vi};
