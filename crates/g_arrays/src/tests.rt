@@ -13,7 +13,7 @@ use crate::act_on;
 use g_edits::copy;
 use g_evaluation::same;
 use g_prims::{apply, type_row};
-use g_types::{Rep};
+use g_types::Rep;
 use g_values::{Num, NumArr, Primitive, Value, ValueList, types_of};
 use std::alloc::{AllocError, Global};
 use std::test::Fail;

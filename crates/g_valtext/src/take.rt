@@ -10,7 +10,7 @@ use g_grammar::Stop;
 use g_tokens::{Mark, Token};
 use g_types::{Bytes, Rep};
 use g_values::Num;
-use std::alloc::{Global};
+use std::alloc::Global;
 
 /// How many elements an array has at most beside its first.
 pub(crate) const MOST_FURTHER: u32 = 4_194_303;
