@@ -8,7 +8,7 @@ ghost use Rattle.g_valtext.specs.Reads.{GivesNext, GivesNumbers};
 ghost use Rattle.g_valtext.specs.Spellings as spec;
 ghost use Rattle.g_valtext.specs.Spellings.{array_rest, further, most_further, number_within, of_form, turn};
 
-use crate::take::{close_bracket, closed, comma_or_bracket, number, open_bracket};
+use crate::take::{MOST_FURTHER, close_bracket, closed, comma_or_bracket, number, open_bracket};
 use g_grammar::Stop;
 use g_tokens::Token;
 use g_types::Rep;
