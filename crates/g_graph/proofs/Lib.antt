@@ -1,4 +1,5 @@
 pub mod Search
+pub mod EdgeLemmas
 pub mod Shows
 pub mod Falling
 pub mod Telling

@@ -3,6 +3,7 @@
 #![tactic(auto)]
 
 pub mod cycles;
+pub mod edges;
 mod find;
 mod hint;
 pub mod reach;

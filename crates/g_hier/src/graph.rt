@@ -2,11 +2,12 @@
 //! to its call lines, and a call line to the VI that it calls. So a call line leads to itself exactly where
 //! the VI that it calls reaches the VI that holds it.
 
-ghost use Rattle.std.specs.Prelude.{◌≡◌, ◌<◌, ◌+◌, ◌^◌, ◌++◌, ◌&&◌, ◌||◌, ◌==◌, ℕ, false, length, map, All, IfOk, OnOk};
+ghost use Rattle.std.specs.Prelude.{◌≡◌, ◌<◌, ◌+◌, ◌^◌, ◌++◌, ◌||◌, ℕ, length, map, All, IfOk, OnOk};
 ghost use Rattle.g_graph.specs.Graph.{has_edge, InRange};
 ghost use Rattle.g_hier.specs.CallGraph.{held, held_from, EndsBelow, is_edge, edges};
 
 use crate::linked::{CallLine, Outline};
+use g_graph::edges::{add_edge, bare};
 use std::alloc::{AllocError, Global};
 
 /// A call line with the VI that holds it and the VI that it calls.
@@ -47,31 +48,6 @@ pub fn held_calls(alloc: Global, outlines: &[Outline]) -> Result<Vec<HeldCall>, 
         push_held(number(vi)?, outlines[vi].calls.as_slice(), &mut all)?;
     }
     Ok(all)
-}
-
-/// A graph of so many vertices without an edge.
-fn bare(alloc: Global, count: usize) -> Result<Vec<Vec<usize>>, AllocError>
-    ensures len { IfOk result (λ graph. length graph.items ≡ count) }
-    ensures in_range { IfOk result (λ graph. InRange graph.items) }
-    ensures edges { IfOk result (λ graph. (a b : ℕ) → has_edge graph.items a b ≡ false) }
-{
-    let mut graph = Vec::with_capacity(alloc, count)?;
-    for _vertex in 0..count {
-        graph.push(Vec::new(alloc))?;
-    }
-    Ok(graph)
-}
-
-fn add_edge(graph: &mut Vec<Vec<usize>>, from: usize, to: usize) -> Result<(), AllocError>
-    requires from { from < length graph.old.items }
-    requires to { to < length graph.old.items }
-    requires in_range { InRange graph.old.items }
-    ensures len { length graph.new.items ≡ length graph.old.items }
-    ensures in_range { OnOk result (InRange graph.new.items) }
-    ensures edges { OnOk result ((a b : ℕ) → has_edge graph.new.items a b ≡ (has_edge graph.old.items a b || ((from == a) && (to == b)))) }
-{
-    graph[from].push(to)?;
-    Ok(())
 }
 
 /// Adds the edges of a call line, whose vertex is given.

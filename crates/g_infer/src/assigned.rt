@@ -9,10 +9,11 @@ ghost use Rattle.g_typing.specs.Typing as typing;
 ghost use Rattle.g_infer.specs.Calls.{item_unlike, next_input};
 ghost use Rattle.g_infer.specs.Known.{types_of};
 
-use crate::kinds::{element, is_assignable, part, queued, referred};
+use crate::kinds::{element, part, queued, referred};
 use crate::places::{next, place, push_unless};
 use crate::types::{WireTypes, type_at, wire_type};
 use g_diagram::{PanelItem, Place, SharedOp, Tunnel, Wire};
+use g_prims::kinds::is_assignable;
 use g_table::Arm;
 use g_types::Ty;
 use std::alloc::AllocError;

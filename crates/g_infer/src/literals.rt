@@ -8,10 +8,10 @@ ghost use Rattle.g_types.specs.declared.ty.Ty.{out-Ty};
 ghost use Rattle.g_table.specs.Seen as table;
 ghost use Rattle.g_typing.specs.Literals as spec;
 
-use crate::kinds::{is_bool, is_num, is_str};
 use crate::places::{next, place, push_unless};
 use g_diagram::{Lit, PanelItem, Place, Selector};
 use g_edits::MOST;
+use g_prims::kinds::{is_bool, is_num, is_str};
 use g_table::Arm;
 use g_types::{Rep, Ty};
 use std::alloc::AllocError;

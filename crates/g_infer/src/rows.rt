@@ -9,11 +9,12 @@ ghost use Rattle.g_typing.specs.Rows as spec;
 ghost use Rattle.g_typing.specs.Types as types_spec;
 ghost use Rattle.g_infer.specs.Known.{types_of};
 
-use crate::kinds::{element, is_bool, is_element, is_num, is_shallow, part, queued, referred};
+use crate::kinds::{element, is_element, is_shallow, part, queued, referred};
 use crate::places::{next, place, push_unless};
 use crate::types::{WireTypes, wire_type};
 use g_diagram::{Place, SharedOp, Tunnel, Wire};
 use g_lists::List;
+use g_prims::kinds::{is_bool, is_num};
 use g_prims::{RowRefused, type_row};
 use g_types::{Ty, TyList, copy};
 use g_values::Primitive;

@@ -128,8 +128,9 @@ pub fn is_same(a: &Ty, b: &Ty) -> bool
     same(a, b)
 }
 
-/// Whether they are equal, both numbers, or both arrays of numbers.
-fn is_assignable(from: &Ty, to: &Ty) -> bool
+/// Whether a value of the first type goes where one of the second is wanted: they are equal, both
+/// numbers, or both arrays of numbers.
+pub fn is_assignable(from: &Ty, to: &Ty) -> bool
     ensures { result ≡ spec.is_assignable from.now to.now }
 {
     is_same(from, to) || (is_num(from) && is_num(to)) || (is_nums(from) && is_nums(to))

@@ -3,7 +3,7 @@
 
 mod array_rows;
 mod cluster_rows;
-mod kinds;
+pub mod kinds;
 mod number_rows;
 mod outs;
 mod refusal;

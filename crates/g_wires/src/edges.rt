@@ -1,12 +1,13 @@
 //! The graph of nodes and wires of a VI: a vertex for each line and each wire, an edge for each operand
 //! of a node.
 
-ghost use Rattle.std.specs.Prelude.{◌≡◌, ◌<◌, ◌≤◌, ◌+◌, ◌^◌, ◌&&◌, ◌||◌, ◌==◌, ℕ, false, length, IfOk, OnOk, All};
+ghost use Rattle.std.specs.Prelude.{◌≡◌, ◌<◌, ◌≤◌, ◌+◌, ◌^◌, ◌||◌, ℕ, length, IfOk, OnOk, All};
 ghost use Rattle.std.specs.List.{list_any};
 ghost use Rattle.g_graph.specs.Graph.{has_edge, InRange};
 ghost use Rattle.g_wires.specs.Marks.{is_edge, WireBelow, NodeBelow};
 
 use crate::coded::Coded;
+use g_graph::edges::{add_edge, bare};
 use std::alloc::{AllocError, Global};
 
 /// A line after all those of nodes that have a port.
@@ -31,31 +32,6 @@ fn past(lines: u32, port: &Coded) -> Result<u32, AllocError>
             Ok(lines.max(next))
         }
     }
-}
-
-/// A graph of so many vertices without an edge.
-fn bare(alloc: Global, count: usize) -> Result<Vec<Vec<usize>>, AllocError>
-    ensures len { IfOk result (λ graph. length graph.items ≡ count) }
-    ensures in_range { IfOk result (λ graph. InRange graph.items) }
-    ensures edges { IfOk result (λ graph. (a b : ℕ) → has_edge graph.items a b ≡ false) }
-{
-    let mut graph = Vec::with_capacity(alloc, count)?;
-    for _vertex in 0..count {
-        graph.push(Vec::new(alloc))?;
-    }
-    Ok(graph)
-}
-
-fn add_edge(graph: &mut Vec<Vec<usize>>, from: usize, to: usize) -> Result<(), AllocError>
-    requires from { from < length graph.old.items }
-    requires to { to < length graph.old.items }
-    requires in_range { InRange graph.old.items }
-    ensures len { length graph.new.items ≡ length graph.old.items }
-    ensures in_range { OnOk result (InRange graph.new.items) }
-    ensures edges { OnOk result ((a b : ℕ) → has_edge graph.new.items a b ≡ (has_edge graph.old.items a b || ((from == a) && (to == b)))) }
-{
-    graph[from].push(to)?;
-    Ok(())
 }
 
 /// Adds the edge of a port, if it has one: a node leads to the wires that it gives, and a wire to the

@@ -1,5 +1,0 @@
-use Rattle.g_prims.proofs.Sames.{decided}
-use Rattle.g_infer.proofs.kinds.is_same.Goals as goal
-
-pub returns : goal.returns
-returns c = decided c.same.result c.args.a.now c.args.b.now c.same.ensures
