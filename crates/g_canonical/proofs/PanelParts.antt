@@ -1,6 +1,6 @@
 -- Panels and what follows the header of a VI.
 use Rattle.std.proofs.Common.{◌≡◌, ℕ, Bool, true, false, List, [], ◌∷◌, ◌++◌, Option, Some, None, refl, sym, ap, ◌∙◌, codes, inl, inr}
-use Rattle.g_grammar.specs.Grammar.{Grammar, take, give, loop, or_else}
+use Rattle.g_grammar.specs.Grammar.{Grammar, take, give, loop, or_else, ◌>>=◌}
 use Rattle.g_types.specs.Ty as types_spec
 use Rattle.g_types.specs.declared.ty.Ty.{Ty}
 use Rattle.g_tokens.specs.declared.token.Token.{Token}

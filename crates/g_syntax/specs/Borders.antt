@@ -1,7 +1,7 @@
 -- Operands, and the lines at the border of a structure.
 use Rattle.std.specs.Prelude.{ℕ, Bool, true, false, List, [], ◌∷◌, Option, Some, None, codes, ◌⊎◌}
 use Rattle.std.proofs.Common.{inl, inr}
-use Rattle.g_grammar.specs.Grammar.{Grammar, give, take, loop, or_else}
+use Rattle.g_grammar.specs.Grammar.{Grammar, give, take, loop, ◌>>=◌, or_else}
 use Rattle.g_diagram.specs.declared.node.Tunnel.{Tunnel}
 use Rattle.g_diagram.specs.declared.node.Tunnel.TheVariants as tunnel
 use Rattle.g_tokens.specs.declared.token.Token.{Token}
