@@ -39,8 +39,8 @@ use Rattle.g_infer.specs.declared.typed.Typed.{Typed}
 use Rattle.g_infer.specs.declared.typed.ViTypes.{ViTypes}
 use Rattle.g_infer.specs.Answer.{types_in, HasTyping, IsTyped}
 use Rattle.g_infer.specs.Inferred.{told_source, AreTypings, all_breaks, Inferred}
-use Rattle.g_infer.specs.Known.{Table, types_of}
-use Rattle.g_infer.specs.Panels.{or_nothing}
+use Rattle.g_type_breaks.specs.Known.{Table, types_of}
+use Rattle.g_type_breaks.specs.Panels.{or_nothing}
 use Rattle.g_infer.proofs.PlaceLemmas.{told_in}
 
 -- ---- what calls mean

@@ -1,13 +1,8 @@
-pub mod Branches
-pub mod Calls
 pub mod FeedLemmas
 pub mod FormLemmas
 pub mod GivenNames
 pub mod InferLemmas
-pub mod Loops
 pub mod Outputs
-pub mod PanelLemmas
 pub mod PlaceLemmas
 pub mod ReadLemmas
-pub mod Sweeping
 pub mod WalkLemmas

@@ -1,8 +1,4 @@
-pub mod Known
-pub mod Calls
-pub mod Panels
 pub mod Given
-pub mod Gaps
 pub mod Steps
 pub mod Reads
 pub mod Gives

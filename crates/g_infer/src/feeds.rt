@@ -10,10 +10,10 @@ ghost use Rattle.g_infer.specs.Steps.{seen_step};
 
 use crate::gives::push_gives;
 use crate::giving::Given;
-use crate::panels::{ObjectTypes, Panels};
 use crate::reads::{Read, reads};
 use crate::steps::Step;
-use crate::types::WireTypes;
+use g_type_breaks::panels::{ObjectTypes, Panels};
+use g_type_breaks::types::WireTypes;
 use std::alloc::{AllocError, Global};
 use std::collections::BTreeMap;
 

@@ -6,18 +6,18 @@ ghost use Rattle.g_typing.specs.Rows.{has_rows};
 ghost use Rattle.g_typing.specs.Typing as spec;
 ghost use Rattle.g_infer.specs.Given.{seen_given};
 ghost use Rattle.g_infer.specs.Gives.{form_gives};
-ghost use Rattle.g_infer.specs.Known.{types_of};
-ghost use Rattle.g_infer.specs.Panels.{callees_in, objects_in};
+ghost use Rattle.g_type_breaks.specs.Known.{types_of};
+ghost use Rattle.g_type_breaks.specs.Panels.{callees_in, objects_in};
 ghost use Rattle.g_infer.specs.Steps.{seen_step};
 
 use crate::giving::{
     Given, has_rows, push, push_controls, push_inside, push_node, push_outside, push_result, whole,
 };
-use crate::panels::{ObjectTypes, Panels};
 use crate::steps::Step;
-use crate::types::WireTypes;
 use g_diagram::Tunnel;
 use g_table::Entry;
+use g_type_breaks::panels::{ObjectTypes, Panels};
+use g_type_breaks::types::WireTypes;
 use std::alloc::{AllocError, Global};
 
 /// What a node's border lines give outside.

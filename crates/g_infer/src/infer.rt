@@ -13,14 +13,10 @@ ghost use Rattle.g_typing.specs.Typing.{called_panel, panel_type};
 ghost use Rattle.g_wires.specs.Breaks.{IsWiring};
 ghost use Rattle.g_infer.specs.Answer.{IsTyped, Refuses, types_in};
 ghost use Rattle.g_infer.specs.Inferred.{Inferred};
-ghost use Rattle.g_infer.specs.Known.{types_of};
-ghost use Rattle.g_infer.specs.Panels.{callees_in, objects_in};
+ghost use Rattle.g_type_breaks.specs.Known.{types_of};
+ghost use Rattle.g_type_breaks.specs.Panels.{callees_in, objects_in};
 
-use crate::panels::{ObjectTypes, Panels, object_types, panels};
-use crate::passes::push_type_breaks;
-use crate::places::next;
 use crate::typed::{InferRefused, SourceType, Typed, ViTypes};
-use crate::types::WireTypes;
 use crate::walk::vi_types;
 use g_breaks::listed;
 use g_diagram::{Break, Hierarchy, PanelItem, Vi};
@@ -28,6 +24,10 @@ use g_lists::List;
 use g_table::Entry;
 use g_table::table::table;
 use g_typable::typable_laws;
+use g_type_breaks::panels::{ObjectTypes, Panels, object_types, panels};
+use g_type_breaks::passes::push_type_breaks;
+use g_type_breaks::places::next;
+use g_type_breaks::types::WireTypes;
 use g_types::Name;
 use std::alloc::{AllocError, Global};
 

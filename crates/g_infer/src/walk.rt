@@ -7,20 +7,20 @@ ghost use Rattle.g_typing.specs.Typing.{panel_type};
 ghost use Rattle.g_typable.specs.Typable.{IsTypable};
 ghost use Rattle.g_infer.specs.Given.{seen_given};
 ghost use Rattle.g_infer.specs.Gives.{form_gives};
-ghost use Rattle.g_infer.specs.Known.{types_of};
-ghost use Rattle.g_infer.specs.Panels.{callees_in, objects_in};
+ghost use Rattle.g_type_breaks.specs.Known.{types_of};
+ghost use Rattle.g_type_breaks.specs.Panels.{callees_in, objects_in};
 ghost use Rattle.g_infer.specs.Steps.{seen_step};
 ghost use Rattle.g_infer.specs.Walking.{CanWalk, HasWalked, IsAfter, steps_of};
 
 use crate::feeds::step_graph;
 use crate::gives::push_gives;
 use crate::giving::Given;
-use crate::panels::{ObjectTypes, Panels};
 use crate::steps::{Step, all_steps};
-use crate::types::WireTypes;
 use g_diagram::PanelItem;
 use g_order::order;
 use g_table::Entry;
+use g_type_breaks::panels::{ObjectTypes, Panels};
+use g_type_breaks::types::WireTypes;
 use std::alloc::{AllocError, Global};
 use std::collections::BTreeMap;
 

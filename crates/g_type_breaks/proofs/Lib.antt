@@ -1,0 +1,5 @@
+pub mod Branches
+pub mod Calls
+pub mod Loops
+pub mod PanelLemmas
+pub mod Sweeping

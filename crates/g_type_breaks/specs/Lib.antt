@@ -1,0 +1,4 @@
+pub mod Known
+pub mod Calls
+pub mod Panels
+pub mod Gaps
