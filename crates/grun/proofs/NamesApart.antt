@@ -49,8 +49,8 @@ each_none f n (x ∷ xs) (suc k) vi e at =
     ap (λ m. f m vi) same ∙ each_none f (n + 1) xs k vi (right_empty (f n x) (each_from f (n + 1) xs) e) at
 
 -- of each VI
-pub none_in : (h : Hierarchy) (main : List ℕ) → IsWiring h main [] → (k : ℕ) (vi : Vi) → slice_get h.vis k ≡ Some vi → plain_in (ports_of h.vis) (known_of h.vis) k vi ≡ []
-none_in h main wired k vi at =
+pub none_at : (h : Hierarchy) (main : List ℕ) → IsWiring h main [] → (k : ℕ) (vi : Vi) → slice_get h.vis k ≡ Some vi → plain_in (ports_of h.vis) (known_of h.vis) k vi ≡ []
+none_at h main wired k vi at =
     let f = plain_in (ports_of h.vis) (known_of h.vis) in
     let same : k ≡ 0 + k = omega arith in
     ap (λ n. f n vi) same ∙ each_none f 0 h.vis k vi (left_empty (each_from f 0 h.vis) (renamed_vis h.vis) (none_plain h main wired)) at
@@ -59,7 +59,7 @@ pub none_renamed : (h : Hierarchy) (main : List ℕ) → IsWiring h main [] → 
 none_renamed h main wired k vi at =
     let known = known_of h.vis in
     let es = entries_of vi in
-    let lined = right_empty (named_in (ports_of h.vis vi) k) (lined_by known k vi.panel es) (none_in h main wired k vi at) in
+    let lined = right_empty (named_in (ports_of h.vis vi) k) (lined_by known k vi.panel es) (none_at h main wired k vi at) in
     let called = left_empty (called_by known.arities k vi.panel es) (structured_by known.queues k es) lined in
     left_empty (renamed_items k vi.panel) _ (right_empty (map (break k 5) (miscounted known.arities es)) _ called)
 
