@@ -4,6 +4,9 @@
 ghost use Rattle.std.specs.Prelude.{◌≡◌};
 ghost use Rattle.g_words.specs.Operations.{lookup, rows_of, row_named, operation_named};
 
+#[cfg(test)]
+mod tests;
+
 use g_diagram::SharedOp;
 use g_values::Primitive;
 
