@@ -7,3 +7,5 @@ pub mod edges;
 mod find;
 mod hint;
 pub mod reach;
+#[cfg(test)]
+mod tests;

@@ -1,0 +1,9 @@
+use Rattle.std.proofs.Common.{◌≡◌, length}
+use Rattle.g_graph.specs.Graph.{InRange}
+use Rattle.g_graph.proofs.tests.ring.Given as goal
+
+abbrev pub invariant-loop-node : goal.invariant-loop-node
+invariant-loop-node l = record {
+  len : length l.graph.items ≡ l.nodes;
+  in_range : InRange l.graph.items;
+}
