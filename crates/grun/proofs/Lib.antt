@@ -4,3 +4,4 @@ pub mod Spelled
 pub mod Settled
 pub mod Plain
 pub mod Running
+pub mod Examples
