@@ -1,5 +1,5 @@
 -- Whole answers on small listings, computed: usage, a refused token, `print`, `check` with and without a break, a run and its settings.
-use Rattle.std.proofs.Common.{◌≡◌, ◌≢◌, ◌⊎◌, inl, inr, ℕ, zero, suc, ◌+◌, ◌<◌, ◌≤◌, ◌==◌, ◌&&◌, ◌||◌, ◌*◌, Bool, true, false, List, [], ◌∷◌, ◌++◌, length, Option, Some, None, ℤ, pos, refl, ap, sym, subst, ◌∙◌, arith}
+use Rattle.std.proofs.Common.{◌≡◌, inl, inr, ℕ, zero, suc, ◌+◌, ◌==◌, ◌&&◌, ◌||◌, ◌*◌, Bool, true, false, List, [], ◌∷◌, ◌++◌, length, Some, None, pos, refl, ap, sym, subst, ◌∙◌, arith}
 use Rattle.std.proofs.lemmas.Bool.{eqb-true}
 use Rattle.std.specs.Prelude.{codes, slice_get, Err}
 use Rattle.std.specs.Fmt.{digits}
@@ -7,7 +7,6 @@ use Rattle.std.specs.List.{All, Contains, list_any}
 use Rattle.std.specs.List.Sorted.{IsStrictlySortedBy}
 use Rattle.g_grammar.specs.Grammar.{all_read, read, repeat}
 use Rattle.g_grammar.proofs.Laws.{takes}
-use Rattle.g_types.specs.declared.ty.Ty.{Ty}
 use Rattle.g_types.specs.declared.rep.Rep.TheVariants.{I32}
 use Rattle.g_types.proofs.Texts.{texts}
 use Rattle.g_values.specs.declared.value.Value.{Value}
@@ -26,7 +25,7 @@ use Rattle.g_listing.proofs.Refusals.{refused_in}
 use Rattle.g_valtext.specs.Spellings as value_texts
 use Rattle.g_valtext.proofs.Steps.{form-Num}
 use Rattle.g_line.specs.declared.forms.Setting.{Setting}
-use Rattle.g_line.specs.declared.forms.Line.TheVariants.{Run, Check, Print}
+use Rattle.g_line.specs.declared.forms.Line.TheVariants.{Print}
 use Rattle.g_line.specs.Forms.{Sets}
 use Rattle.g_line.specs.Reading.{IsFirstOther}
 use Rattle.g_line.proofs.Stops.{stops_second, stops_later}
@@ -57,7 +56,7 @@ use Rattle.g_check.specs.Checked.{IsBreak, IsUnbroken, wires, types, recursion, 
 use Rattle.g_plain.specs.Plain.{IsPlain, is_plain_node_at}
 use Rattle.g_print.proofs.TextLemmas.{nodes}
 use Rattle.g_fire.specs.declared.firing.Firing.{Firing}
-use Rattle.g_fire.specs.Program.{Program, program}
+use Rattle.g_fire.specs.Program.{Program}
 use Rattle.g_fire.specs.declared.state.FireState.{FireState}
 use Rattle.g_fire.specs.Fire.{fire}
 use Rattle.g_fire.specs.Print.{print}
