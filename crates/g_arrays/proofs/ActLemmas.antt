@@ -10,13 +10,13 @@ use Rattle.g_values.specs.Value.{type_of}
 use Rattle.g_values.specs.declared.value.Value.{Value}
 use Rattle.g_values.specs.declared.primitive.Primitive.{Primitive}
 use Rattle.g_values.specs.declared.primitive.Primitive.TheVariants as op
-use Rattle.g_operations.specs.Conditions.{AreEqualTypes}
-use Rattle.g_operations.proofs.RowLemmas.{equal_types}
-use Rattle.g_operations.specs.Kinds.{is_bool}
-use Rattle.g_operations.specs.Rows.{selected}
-use Rattle.g_operations.specs.Takes.{takes}
-use Rattle.g_operations.specs.Values.{outputs_of}
-use Rattle.g_evaluation.proofs.ProperOutputs.{proper-outputs}
+use Rattle.g_prims_definitions.specs.Conditions.{AreEqualTypes}
+use Rattle.g_prims_definitions.proofs.RowLemmas.{equal_types}
+use Rattle.g_prims_definitions.specs.Kinds.{is_bool}
+use Rattle.g_prims_definitions.specs.Rows.{selected}
+use Rattle.g_prims_definitions.specs.Takes.{takes}
+use Rattle.g_prims_definitions.specs.Values.{outputs_of}
+use Rattle.g_prims_evaluation.proofs.ProperOutputs.{proper-outputs}
 use Rattle.g_arrays.specs.Acting.{Acts, ReadsStay, input, placed, reads_others, takes_both, takes_first, takes_first_of_three, takes_only, takes_second}
 use Rattle.g_arrays.proofs.RowLengths.{two_long, three_long, one_value}
 

@@ -5,7 +5,7 @@ use Rattle.g_types.specs.declared.rep.Rep.{Rep}
 use Rattle.g_types.specs.Rep.{wrap}
 use Rattle.g_values.specs.Numbers.{Numbers}
 use Rattle.g_values.specs.Coerce.{coerced_numbers}
-use Rattle.g_operations.specs.Arithmetic.{combined, left, numbers_of, plus}
+use Rattle.g_prims_definitions.specs.Arithmetic.{combined, left, numbers_of, plus}
 
 nothing_added : (x : ℤ) → x +ℤ pos 0 ≡ x
 nothing_added x = omega (arith, ints)

@@ -6,8 +6,8 @@ use Rattle.g_types.specs.declared.rep.Rep.{Rep}
 use Rattle.g_types.specs.declared.rep.Rep.TheVariants.{I8, I16, I32, I64, U8, U16, U32, U64}
 use Rattle.g_types.specs.Rep.{size, half}
 use Rattle.g_values.specs.Canonical.{canonical}
-use Rattle.g_edits.specs.Words.{on_words, result_word}
-use Rattle.g_edits.specs.declared.words.Operator.{Operator}
+use Rattle.g_prims_edits.specs.Words.{on_words, result_word}
+use Rattle.g_prims_edits.specs.declared.words.Operator.{Operator}
 
 abbrev pub plus : ℕ → ℕ → ℕ
 plus x y = (x + y) % 2 ^ 64

@@ -15,13 +15,13 @@ use Rattle.g_values.specs.declared.value.Value.TheViews.{roll-Value, roll-out-Va
 use Rattle.g_values.specs.declared.primitive.Primitive.{Primitive}
 use Rattle.g_values.specs.declared.primitive.Primitive.TheVariants as op
 use Rattle.g_values.proofs.TypesOf.{type-Num, type-Bool, type-Str, type-Nums, type-Arr, type-Cluster, type-Queue, type-Cell}
-use Rattle.g_operations.specs.Clusters as clusters
-use Rattle.g_operations.specs.Kinds as kinds
-use Rattle.g_operations.specs.Row.{read, ends, given, another, one, two, three}
-use Rattle.g_operations.specs.Rows.{row_of, selected, when}
-use Rattle.g_operations.specs.Takes.{takes}
-use Rattle.g_operations.specs.Values.{outputs_of}
-use Rattle.g_evaluation.proofs.RowFacts.{given_true}
+use Rattle.g_prims_definitions.specs.Clusters as clusters
+use Rattle.g_prims_definitions.specs.Kinds as kinds
+use Rattle.g_prims_definitions.specs.Row.{read, ends, given, another, one, two, three}
+use Rattle.g_prims_definitions.specs.Rows.{row_of, selected, when}
+use Rattle.g_prims_definitions.specs.Takes.{takes}
+use Rattle.g_prims_definitions.specs.Values.{outputs_of}
+use Rattle.g_prims_evaluation.proofs.RowFacts.{given_true}
 
 more : (o : Option (List Ty)) (t : Ty) (ts : List Ty) → is_some (read (ends o) (t ∷ ts)) ≡ true → true ≡ false
 more None t ts h = absurd cc

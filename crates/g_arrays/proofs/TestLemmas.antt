@@ -11,8 +11,8 @@ use Rattle.g_values.specs.declared.primitive.Primitive.{Primitive}
 use Rattle.g_values.proofs.ProperLemmas.{proper_nums}
 use Rattle.g_values.proofs.ProperParts.{proper_text}
 use Rattle.g_values.proofs.TypesOf.{type-Nums}
-use Rattle.g_operations.specs.Rows.{row_of}
-use Rattle.g_operations.specs.Takes.{takes}
+use Rattle.g_prims_definitions.specs.Rows.{row_of}
+use Rattle.g_prims_definitions.specs.Takes.{takes}
 use Rattle.g_arrays.specs.Acting.{Acts}
 
 pub proper_few : (xs : Numbers) → length xs.all ≤ 1000 → IsProper (value.Nums xs)

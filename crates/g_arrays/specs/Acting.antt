@@ -4,8 +4,8 @@ use Rattle.g_types.specs.declared.ty.Ty.{Ty}
 use Rattle.g_values.specs.declared.value.Value.{Value}
 use Rattle.g_values.specs.declared.primitive.Primitive.{Primitive}
 use Rattle.g_values.specs.declared.primitive.Primitive.TheVariants as op
-use Rattle.g_operations.specs.Rows.{row_of}
-use Rattle.g_operations.specs.Takes.{takes}
+use Rattle.g_prims_definitions.specs.Rows.{row_of}
+use Rattle.g_prims_definitions.specs.Takes.{takes}
 
 -- all inputs, where the kept one stands at a place among the others
 abbrev pub placed : ℕ → Value → List Value → List Value

@@ -2,8 +2,8 @@
 use Rattle.std.specs.Prelude.{ℕ, Bool, true, false, List, ◌++◌, take, drop}
 use Rattle.std.specs.Simd.Lanes.{zip2}
 use Rattle.g_types.specs.declared.rep.Rep.{Rep}
-use Rattle.g_edits.specs.Words.{result_word}
-use Rattle.g_edits.specs.declared.words.Operator.{Operator}
+use Rattle.g_prims_edits.specs.Words.{result_word}
+use Rattle.g_prims_edits.specs.declared.words.Operator.{Operator}
 
 -- the first `at` items are done
 abbrev pub done : {A B : Type 0} → (A → B → A) → List A → List B → ℕ → List A

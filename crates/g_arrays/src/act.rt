@@ -12,10 +12,10 @@ ghost use Rattle.g_arrays.specs.Acting.{
   takes_only,
   takes_second,
 };
-ghost use Rattle.g_evaluation.specs.Conditions.{AreInOrder, IsInOrder};
-ghost use Rattle.g_operations.specs.Clusters as clusters;
-ghost use Rattle.g_operations.specs.Conditions.{AreEqualTypes};
-ghost use Rattle.g_operations.specs.Values.{outputs_of};
+ghost use Rattle.g_prims_evaluation.specs.Conditions.{AreInOrder, IsInOrder};
+ghost use Rattle.g_prims_definitions.specs.Clusters as clusters;
+ghost use Rattle.g_prims_definitions.specs.Conditions.{AreEqualTypes};
+ghost use Rattle.g_prims_definitions.specs.Values.{outputs_of};
 ghost use Rattle.g_values.specs.Proper.{IsProper};
 ghost use Rattle.g_values.specs.Value.{type_of};
 ghost use Rattle.g_values.specs.declared.primitive.Primitive.TheVariants as op;
@@ -23,11 +23,11 @@ ghost use Rattle.g_values.specs.declared.value.Value.TheVariants as value;
 
 use crate::bits::{bits_first, bits_second, inverted};
 use crate::elements::{absolute, converted, kept_first, kept_second, number_with, with_number};
-use g_edits::{
+use g_lists::List;
+use g_prims_edits::{
     Operator, array_subset, build, bytes_str, concat, parts, put, replace, reversed, select, sort,
     str_bytes, str_concat, str_subset,
 };
-use g_lists::List;
 use g_types::Rep;
 use g_values::{Num, Primitive, Value, ValueList};
 use std::alloc::{AllocError, Global};

@@ -2,13 +2,13 @@
 
 ghost use Rattle.std.specs.Prelude.{◌≡◌, IfOk, map, not};
 ghost use Rattle.std.specs.Simd.Lanes.{zip2};
-ghost use Rattle.g_operations.specs.Bits as spec;
-ghost use Rattle.g_edits.specs.Words.{on_numbers, on_truths};
+ghost use Rattle.g_prims_definitions.specs.Bits as spec;
+ghost use Rattle.g_prims_edits.specs.Words.{on_numbers, on_truths};
 ghost use Rattle.g_values.specs.declared.value.Value.TheVariants as value;
 
 use crate::elements::{kept_first, kept_second, number_with};
-use g_edits::{Operator, combined_truth, copy, is_true, nothing};
 use g_lists::List;
+use g_prims_edits::{Operator, combined_truth, copy, is_true, nothing};
 use g_types::Rep;
 use g_values::{ArrOf, Num, Value, ValueArr};
 use std::alloc::{AllocError, Global};

@@ -1,14 +1,14 @@
 //! Arithmetic on the value that is kept.
 
 ghost use Rattle.std.specs.Prelude.{◌≡◌, IfOk, map};
-ghost use Rattle.g_operations.specs.Arithmetic as spec;
-ghost use Rattle.g_edits.specs.Words as by_words;
-ghost use Rattle.g_edits.specs.Words.{on_numbers};
+ghost use Rattle.g_prims_definitions.specs.Arithmetic as spec;
+ghost use Rattle.g_prims_edits.specs.Words as by_words;
+ghost use Rattle.g_prims_edits.specs.Words.{on_numbers};
 ghost use Rattle.g_values.specs.Coerce.{coerced_numbers};
 ghost use Rattle.g_values.specs.declared.value.Value.TheVariants as value;
 
 use crate::numbers::{left, right, zipped};
-use g_edits::{Operator, absolute_number, absolute_word, combined_number, nothing};
+use g_prims_edits::{Operator, absolute_number, absolute_word, combined_number, nothing};
 use g_types::{Rep, wider};
 use g_values::{Num, NumArr, Value};
 use std::alloc::{AllocError, Global};

@@ -3,10 +3,10 @@
 ghost use Rattle.std.specs.Prelude.{◌≡◌, ◌+◌, ◌≤◌, length, map};
 ghost use Rattle.std.specs.Simd.Lanes.{zip2, chunk, put_chunk};
 ghost use Rattle.g_arrays.specs.Lanes.{with_word};
-ghost use Rattle.g_edits.specs.Words.{on_words, result_word};
+ghost use Rattle.g_prims_edits.specs.Words.{on_words, result_word};
 ghost use Rattle.g_values.specs.Canonical.{canonical};
 
-use g_edits::Operator;
+use g_prims_edits::Operator;
 use g_types::Rep;
 use std::simd::prelude::*;
 

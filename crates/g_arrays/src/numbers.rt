@@ -1,11 +1,11 @@
 //! Arithmetic on arrays of numbers, in the buffer that is kept.
 
 ghost use Rattle.std.specs.Prelude.{◌≡◌};
-ghost use Rattle.g_operations.specs.Arithmetic as spec;
-ghost use Rattle.g_edits.specs.Words.{on_numbers};
+ghost use Rattle.g_prims_definitions.specs.Arithmetic as spec;
+ghost use Rattle.g_prims_edits.specs.Words.{on_numbers};
 
 use crate::words::{each_into, zip_into};
-use g_edits::{Operator, word_of};
+use g_prims_edits::{Operator, word_of};
 use g_types::{Rep, wider};
 use g_values::{Num, NumArr};
 

@@ -3,16 +3,16 @@
 ghost use Rattle.std.specs.Prelude.{◌≡◌, ◌∷◌, ◌≤◌, ◌<◌, IfOk, length, map, true, false, ℕ};
 ghost use Rattle.std.specs.List.{All};
 ghost use Rattle.g_arrays.specs.Acting.{placed, takes_only, takes_second};
-ghost use Rattle.g_operations.specs.Takes.{takes};
+ghost use Rattle.g_prims_definitions.specs.Takes.{takes};
 ghost use Rattle.g_types.specs.declared.rep.Rep.TheVariants.{I16};
 ghost use Rattle.g_values.specs.Proper.{IsProper};
 ghost use Rattle.g_values.specs.Spelled.{is_array};
 ghost use Rattle.g_values.specs.Value.{type_of};
 
 use crate::act_on;
-use g_edits::copy;
-use g_evaluation::same;
 use g_prims::{apply, type_row};
+use g_prims_edits::copy;
+use g_prims_evaluation::same;
 use g_types::Rep;
 use g_values::{Num, NumArr, Primitive, Value, ValueList, types_of};
 use std::alloc::{AllocError, Global};

@@ -3,10 +3,10 @@
 ghost use Rattle.std.specs.Prelude.{◌≡◌, ◌≤◌, length, map};
 ghost use Rattle.std.specs.Simd.Lanes.{zip2};
 ghost use Rattle.g_arrays.specs.Lanes.{with_word};
-ghost use Rattle.g_edits.specs.Words.{result_word};
+ghost use Rattle.g_prims_edits.specs.Words.{result_word};
 
 use crate::lanes::{each_block, zip_block};
-use g_edits::{Operator, combined_word};
+use g_prims_edits::{Operator, combined_word};
 use g_types::Rep;
 
 /// Each word with the other word at its place.

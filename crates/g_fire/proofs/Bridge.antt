@@ -6,7 +6,7 @@ use Rattle.std.specs.Prelude.{not, is_some, slice_get, ◌==◌, length}
 use Rattle.std.specs.List.{list_all, list_any}
 use Rattle.g_values.specs.Coerce.{coerced}
 use Rattle.g_diagram.specs.Lines.{Wire, Entry, Kind, Const, Apply, Shows, entry}
-use Rattle.g_operations.specs.Values.{outputs_of}
+use Rattle.g_prims_definitions.specs.Values.{outputs_of}
 use Rattle.g_fire.specs.declared.firing.Firing.{Firing}
 use Rattle.g_fire.specs.declared.maps.WireSource.{WireSource}
 use Rattle.g_fire.specs.declared.plan.Step.{Step}

@@ -28,7 +28,7 @@ use Rattle.g_fire.specs.State.{terminal, is_done, control_values, start, start_o
 use Rattle.g_literals.specs.Values.{literal_value}
 use Rattle.g_fire.specs.Fire.{Effect, guard, shows_in}
 use Rattle.g_fire.specs.Wires.{source_of, inputs_of}
-use Rattle.g_row_laws.specs.Laws.{AreOfTypes}
+use Rattle.g_prims_laws.specs.Laws.{AreOfTypes}
 use Rattle.g_typing.specs.Typing.{control_types}
 use Rattle.g_values.specs.Value.{type_of}
 use Rattle.g_fire.proofs.StepLemmas.{some_is, refute, and_left, and_right, both}

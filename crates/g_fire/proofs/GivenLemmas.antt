@@ -10,10 +10,10 @@ use Rattle.g_diagram.specs.declared.panel.PanelItem.TheVariants.{Control, Indica
 use Rattle.g_diagram.specs.Lines.{Entry}
 use Rattle.g_typing.specs.Typing.{control_types}
 use Rattle.g_values.specs.Value.{type_of}
-use Rattle.g_row_laws.proofs.RowOutputs.{gives_row}
+use Rattle.g_prims_laws.proofs.RowOutputs.{gives_row}
 use Rattle.g_diagram.specs.Operands.{Line, control_lines}
 use Rattle.g_diagram.specs.Ports.{Port, ports_in}
-use Rattle.g_operations.specs.Values.{outputs_of}
+use Rattle.g_prims_definitions.specs.Values.{outputs_of}
 use Rattle.g_fire.specs.declared.firing.Firing.{Firing}
 use Rattle.g_fire.specs.declared.firing.FrameNode.{FrameNode}
 use Rattle.g_fire.specs.declared.maps.Terminal.{Terminal}

@@ -7,7 +7,7 @@ use Rattle.g_values.specs.declared.value.Value.{Value}
 use Rattle.g_diagram.specs.declared.hierarchy.Hierarchy.{Hierarchy}
 use Rattle.g_diagram.specs.declared.hierarchy.Vi.{Vi}
 use Rattle.g_typing.specs.Typing.{control_types}
-use Rattle.g_row_laws.specs.Laws.{AreOfTypes}
+use Rattle.g_prims_laws.specs.Laws.{AreOfTypes}
 use Rattle.g_fire.specs.declared.firing.Firing.{Firing}
 use Rattle.g_fire.specs.declared.plan.Step.{Step}
 use Rattle.g_fire.specs.declared.state.FireState.{FireState}

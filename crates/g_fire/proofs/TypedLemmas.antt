@@ -10,9 +10,9 @@ use Rattle.g_values.specs.declared.value.Value.{Value}
 use Rattle.g_values.specs.Proper.{IsProper}
 use Rattle.g_values.specs.Value.{type_of}
 use Rattle.g_values.specs.declared.primitive.Primitive.{Primitive}
-use Rattle.g_operations.specs.Values.{outputs_of}
-use Rattle.g_row_laws.specs.Laws.{AreOfTypes}
-use Rattle.g_row_laws.proofs.RowOutputs.{gives_row}
+use Rattle.g_prims_definitions.specs.Values.{outputs_of}
+use Rattle.g_prims_laws.specs.Laws.{AreOfTypes}
+use Rattle.g_prims_laws.proofs.RowOutputs.{gives_row}
 use Rattle.g_diagram.specs.declared.panel.PanelItem.{PanelItem}
 use Rattle.g_diagram.specs.declared.panel.PanelItem.TheVariants.{Control, Indicator}
 use Rattle.g_typing.specs.Typing.{control_types}

@@ -6,7 +6,7 @@ use Rattle.g_values.specs.declared.value.Value.TheVariants as value
 use Rattle.g_values.specs.Coerce.{coerced}
 use Rattle.g_literals.specs.Values.{literal_value}
 use Rattle.g_diagram.specs.Lines.{Wire, Entry, Kind, Const, Apply, Shows}
-use Rattle.g_operations.specs.Values.{outputs_of}
+use Rattle.g_prims_definitions.specs.Values.{outputs_of}
 use Rattle.g_fire.specs.declared.firing.Firing.{Firing}
 use Rattle.g_fire.specs.declared.maps.Terminal.{Terminal}
 use Rattle.g_fire.specs.declared.maps.WireSource.{WireSource}

@@ -2,7 +2,7 @@
 use Rattle.std.specs.Prelude.{◌≡◌, ℕ, Bool, true, false, IsTrue, ⊤, List, Some, is_some, slice_get}
 use Rattle.std.specs.List.{All, list_all}
 use Rattle.g_values.specs.declared.value.Value.{Value}
-use Rattle.g_row_laws.specs.Laws.{AreOfTypes}
+use Rattle.g_prims_laws.specs.Laws.{AreOfTypes}
 use Rattle.g_diagram.specs.declared.hierarchy.Hierarchy.{Hierarchy}
 use Rattle.g_diagram.specs.declared.hierarchy.Vi.{Vi}
 use Rattle.g_diagram.specs.declared.node.Branch.{Branch}

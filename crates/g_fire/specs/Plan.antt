@@ -6,14 +6,14 @@ use Rattle.g_values.specs.declared.primitive.Primitive.{Primitive}
 use Rattle.g_values.specs.declared.value.Value.{Value}
 use Rattle.g_values.specs.Proper.{IsProper}
 use Rattle.g_values.specs.Value.{type_of}
-use Rattle.g_operations.specs.Conditions.{HasRow}
-use Rattle.g_operations.specs.Rows.{row_of}
+use Rattle.g_prims_definitions.specs.Conditions.{HasRow}
+use Rattle.g_prims_definitions.specs.Rows.{row_of}
 use Rattle.g_values.specs.declared.value.Value.TheVariants as value
 use Rattle.g_values.specs.Coerce.{coerced}
 use Rattle.g_diagram.specs.declared.panel.PanelItem.{PanelItem}
 use Rattle.g_diagram.specs.declared.panel.PanelItem.TheVariants.{Control, Indicator}
 use Rattle.g_diagram.specs.Lines.{Wire, Entry, Kind, Const, Apply, Shows}
-use Rattle.g_operations.specs.Values.{outputs_of}
+use Rattle.g_prims_definitions.specs.Values.{outputs_of}
 use Rattle.g_fire.specs.declared.maps.Terminal.{Terminal}
 use Rattle.g_fire.specs.declared.maps.WireSource.{WireSource}
 use Rattle.g_fire.specs.declared.plan.Input.{Input}

@@ -3,7 +3,7 @@
 ghost use Rattle.std.specs.Prelude.{◌≡◌, ◌∷◌, ◌<◌, ◌+◌, ◌^◌, [], length, map, IfOk, IsTrue, OnOk};
 ghost use Rattle.g_fire.specs.Cells.{with_cell};
 ghost use Rattle.g_fire.specs.State.{is_last};
-ghost use Rattle.g_operations.specs.Values.{outputs_of};
+ghost use Rattle.g_prims_definitions.specs.Values.{outputs_of};
 
 use crate::firing::FrameNode;
 use crate::maps::Terminal;

@@ -7,8 +7,8 @@ use Rattle.g_hier.specs.declared.linked.Outline.{Outline}
 use Rattle.g_diagram.specs.declared.place.Break.{Break}
 use Rattle.g_diagram.specs.Leads.{Leads}
 use Rattle.g_hier.specs.Outlines.{calls, calls_at, has_call}
-use Rattle.g_breaks.specs.Breaks.{break_cmp, ListsEach}
-use Rattle.g_breaks.proofs.Ordered.{same_break, same_itself, of_parts}
+use Rattle.g_rules_breaks.specs.Breaks.{break_cmp, ListsEach}
+use Rattle.g_rules_breaks.proofs.Ordered.{same_break, same_itself, of_parts}
 use Rattle.g_hier.specs.Recursion.{IsRecursion, HasNoRecursion, Reaches}
 use Rattle.g_hier.specs.CallGraph.{recursion_at}
 

@@ -13,7 +13,7 @@ use Rattle.g_hier.specs.declared.graph.HeldCall.{HeldCall}
 use Rattle.g_hier.specs.declared.linked.CallLine.{CallLine}
 use Rattle.g_hier.specs.declared.linked.Outline.{Outline}
 use Rattle.g_hier.specs.Outlines.{calls, calls_at, has_call, AreKnown}
-use Rattle.g_breaks.specs.Breaks.{break_cmp, has_break, ListsEach}
+use Rattle.g_rules_breaks.specs.Breaks.{break_cmp, has_break, ListsEach}
 use Rattle.g_hier.specs.Recursion.{IsRecursion, Reaches}
 use Rattle.g_hier.specs.CallGraph.{held, held_from, EndsBelow, edges, recursion_at, break_if, breaks_from}
 use Rattle.g_hier.proofs.CallsBack.{CallTo, call_to, IsAt, is_at, at_is}

@@ -2,7 +2,7 @@
 use Rattle.std.specs.Prelude.{ℕ, ◌≡◌, ◌<◌, ◌≤◌, List, length, ◌↔◌, IsTrue, All}
 use Rattle.g_hier.specs.declared.linked.Linked.{Linked}
 use Rattle.g_hier.specs.declared.linked.Outline.{Outline}
-use Rattle.g_breaks.specs.Breaks.{ListsEach}
+use Rattle.g_rules_breaks.specs.Breaks.{ListsEach}
 use Rattle.g_hier.specs.Counts.{IsNodeCount, most_nodes, told}
 use Rattle.g_hier.specs.LinkOrder.{IsLinked, HasSpaces, has_vi}
 use Rattle.g_hier.specs.Recursion.{IsRecursion, HasNoRecursion, Reaches}

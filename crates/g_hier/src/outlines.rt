@@ -5,15 +5,15 @@ ghost use Rattle.std.specs.BTreeMap.{get_by};
 ghost use Rattle.std.specs.Cmp.Lexicographic.{slice_cmp};
 ghost use Rattle.std.specs.Ordering.{nat_cmp};
 ghost use Rattle.g_hier.specs.Outlines as spec;
-ghost use Rattle.g_table.specs.Seen.{seen_kind};
+ghost use Rattle.g_diagram_table.specs.Seen.{seen_kind};
 ghost use Rattle.g_hier.specs.Numbers.{first_number};
 
 use crate::graph::number;
 use crate::linked::{CallLine, Outline};
 use g_diagram::Vi;
+use g_diagram_table::table::table;
+use g_diagram_table::{Entry, Kind};
 use g_lists::List;
-use g_table::table::table;
-use g_table::{Entry, Kind};
 use std::alloc::{AllocError, Global};
 use std::collections::BTreeMap;
 

@@ -3,15 +3,15 @@
 ghost use Rattle.std.specs.Prelude.{◌≡◌, ◌+◌, ◌++◌, length, IfOk, OnOk};
 ghost use Rattle.g_graph.specs.Graph.{is_marked};
 ghost use Rattle.g_hier.specs.Outlines.{AreKnown};
-ghost use Rattle.g_breaks.specs.Breaks.{ListsEach};
+ghost use Rattle.g_rules_breaks.specs.Breaks.{ListsEach};
 ghost use Rattle.g_hier.specs.Recursion.{IsRecursion};
 ghost use Rattle.g_hier.specs.CallGraph.{break_if, breaks_from};
 
 use crate::graph::{HeldCall, graph_of, held_calls};
 use crate::linked::Outline;
-use g_breaks::listed;
 use g_diagram::{Break, Place};
 use g_graph::cycles::cycles;
+use g_rules_breaks::listed;
 use std::alloc::{AllocError, Global};
 
 /// Adds the break of a call line, if it leads back.

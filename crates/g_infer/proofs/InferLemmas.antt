@@ -31,16 +31,16 @@ use Rattle.g_typing.specs.Types.{Types}
 use Rattle.g_typing.specs.Typing.{Callees, Objects, IsTyping, panel_type, panel_of, called_panel}
 use Rattle.g_typing.specs.Breaks.{TypeBreak, breaks_by, breaks_with}
 use Rattle.g_typing.proofs.Agreed.{Typed as IsTypingBy, one_typing}
-use Rattle.g_typable.specs.Typable.{IsTypable}
-use Rattle.g_breaks.specs.Breaks.{break_cmp, has_break, ListsEach}
-use Rattle.g_breaks.proofs.Ordered.{break_total, same_break}
+use Rattle.g_typing_laws.specs.Typable.{IsTypable}
+use Rattle.g_rules_breaks.specs.Breaks.{break_cmp, has_break, ListsEach}
+use Rattle.g_rules_breaks.proofs.Ordered.{break_total, same_break}
 use Rattle.g_infer.specs.declared.typed.SourceType.{SourceType}
 use Rattle.g_infer.specs.declared.typed.Typed.{Typed}
 use Rattle.g_infer.specs.declared.typed.ViTypes.{ViTypes}
 use Rattle.g_infer.specs.Answer.{types_in, HasTyping, IsTyped}
 use Rattle.g_infer.specs.Inferred.{told_source, AreTypings, all_breaks, Inferred}
-use Rattle.g_type_breaks.specs.Known.{Table, types_of}
-use Rattle.g_type_breaks.specs.Panels.{or_nothing}
+use Rattle.g_rules_types.specs.Known.{Table, types_of}
+use Rattle.g_rules_types.specs.Panels.{or_nothing}
 use Rattle.g_infer.proofs.PlaceLemmas.{told_in}
 
 -- ---- what calls mean

@@ -6,8 +6,8 @@ use Rattle.std.proofs.lemmas.List.Elements.{All-from_recursion, All-contains}
 use Rattle.g_types.specs.declared.ty.Ty.{Ty}
 use Rattle.g_types.specs.Ty.{is_num}
 use Rattle.g_values.specs.declared.primitive.Primitive.{Primitive}
-use Rattle.g_operations.specs.Kinds.{is_assignable, is_bool, part}
-use Rattle.g_operations.specs.Rows.{row_of, is_shallow, is_element}
+use Rattle.g_prims_definitions.specs.Kinds.{is_assignable, is_bool, part}
+use Rattle.g_prims_definitions.specs.Rows.{row_of, is_shallow, is_element}
 use Rattle.g_diagram.specs.declared.place.Break.{Break}
 use Rattle.g_diagram.specs.declared.place.Place.{Place}
 use Rattle.g_diagram.specs.declared.node.SharedOp.{SharedOp}

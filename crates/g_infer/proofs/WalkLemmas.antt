@@ -16,8 +16,8 @@ use Rattle.g_diagram.specs.Leads.{Leads}
 use Rattle.g_graph.specs.Graph.{Graph, has, has_edge, row_of, RowInRange, InRange}
 use Rattle.g_graph.proofs.Search.{or_cases, same_number}
 use Rattle.g_wires.proofs.Found.{and_left, and_right}
-use Rattle.g_order.specs.Order.{times, IsOrder, HasCycle}
-use Rattle.g_order.proofs.Waiting.{times-cons}
+use Rattle.g_graph_order.specs.Order.{times, IsOrder, HasCycle}
+use Rattle.g_graph_order.proofs.Waiting.{times-cons}
 use Rattle.g_typing.specs.Types.{Types}
 use Rattle.g_typing.specs.Typing.{Given, Callees, Objects, IsGivenTo, panel_type}
 use Rattle.g_typing.proofs.Agreed.{Typed}
@@ -27,7 +27,7 @@ use Rattle.g_typing.proofs.Ready.{Feeds, no_cycle}
 use Rattle.g_typing.proofs.Roles.{nothing}
 use Rattle.g_typing.proofs.Unique.{Step, IsLocal, AreLocal, HaveGiven, HoldsAll}
 use Rattle.g_typing.proofs.Walked.{AreApart, Adds, Walked, ReadsNone, GivesApart, walked_on}
-use Rattle.g_typable.specs.Typable.{IsTypable}
+use Rattle.g_typing_laws.specs.Typable.{IsTypable}
 use Rattle.g_infer.specs.Feeding.{IsFeeding}
 use Rattle.g_infer.specs.declared.steps.Step.{Step as Made}
 use Rattle.g_infer.specs.Gives.{form_gives, step_of}

@@ -7,7 +7,7 @@ use Rattle.g_diagram.specs.declared.place.Break.{Break}
 use Rattle.g_typing.specs.Breaks.{TypeBreak}
 use Rattle.g_typing.specs.Types.{Types}
 use Rattle.g_typing.specs.Typing.{IsTyping}
-use Rattle.g_breaks.specs.Breaks.{ListsEach}
+use Rattle.g_rules_breaks.specs.Breaks.{ListsEach}
 use Rattle.g_infer.specs.declared.typed.InferRefused.{InferRefused}
 use Rattle.g_infer.specs.declared.typed.InferRefused.TheVariants.{Broken, Memory}
 use Rattle.g_infer.specs.declared.typed.SourceType.{SourceType}

@@ -3,7 +3,7 @@ use Rattle.std.specs.Prelude.{ℕ, ◌+◌, List, [], ◌∷◌, ◌++◌, map, 
 use Rattle.g_diagram.specs.declared.node.Tunnel.{Tunnel}
 use Rattle.g_diagram.specs.declared.panel.PanelItem.{PanelItem}
 use Rattle.g_diagram.specs.Lines.{Wire, Arm, Part, Kind, Entry, Shows, Write, For, While, Case, Sequence, InPlace}
-use Rattle.g_table.specs.Seen.{seen, seen_arm}
+use Rattle.g_diagram_table.specs.Seen.{seen, seen_arm}
 use Rattle.g_typing.specs.Typing.{next_result}
 use Rattle.g_infer.specs.declared.steps.Step.{Step}
 use Rattle.g_infer.specs.declared.steps.Step.TheVariants as code

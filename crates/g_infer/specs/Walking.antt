@@ -3,7 +3,7 @@ use Rattle.std.specs.Prelude.{ℕ, ◌<◌, ◌==◌, ◌≡◌, Bool, true, fal
 use Rattle.std.specs.Str.{bytes_eq}
 use Rattle.g_types.specs.declared.ty.Ty.{Ty}
 use Rattle.g_graph.specs.Graph.{Graph, has_edge}
-use Rattle.g_order.specs.Order.{IsOrder}
+use Rattle.g_graph_order.specs.Order.{IsOrder}
 use Rattle.g_typing.specs.Types.{Types}
 use Rattle.g_typing.specs.Typing.{Given, Callees, Objects}
 use Rattle.g_typing.proofs.Unique.{Step, AreLocal}

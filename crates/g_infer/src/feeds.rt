@@ -12,8 +12,8 @@ use crate::gives::push_gives;
 use crate::giving::Given;
 use crate::reads::{Read, reads};
 use crate::steps::Step;
-use g_type_breaks::panels::{ObjectTypes, Panels};
-use g_type_breaks::types::WireTypes;
+use g_rules_types::panels::{ObjectTypes, Panels};
+use g_rules_types::types::WireTypes;
 use std::alloc::{AllocError, Global};
 use std::collections::BTreeMap;
 

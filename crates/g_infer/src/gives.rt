@@ -1,13 +1,13 @@
 //! What steps give, by the types at the operands that they read.
 
 ghost use Rattle.std.specs.Prelude.{◌≡◌, ◌++◌, map, OnOk};
-ghost use Rattle.g_table.specs.Seen.{seen};
+ghost use Rattle.g_diagram_table.specs.Seen.{seen};
 ghost use Rattle.g_typing.specs.Rows.{has_rows};
 ghost use Rattle.g_typing.specs.Typing as spec;
 ghost use Rattle.g_infer.specs.Given.{seen_given};
 ghost use Rattle.g_infer.specs.Gives.{form_gives};
-ghost use Rattle.g_type_breaks.specs.Known.{types_of};
-ghost use Rattle.g_type_breaks.specs.Panels.{callees_in, objects_in};
+ghost use Rattle.g_rules_types.specs.Known.{types_of};
+ghost use Rattle.g_rules_types.specs.Panels.{callees_in, objects_in};
 ghost use Rattle.g_infer.specs.Steps.{seen_step};
 
 use crate::giving::{
@@ -15,9 +15,9 @@ use crate::giving::{
 };
 use crate::steps::Step;
 use g_diagram::Tunnel;
-use g_table::Entry;
-use g_type_breaks::panels::{ObjectTypes, Panels};
-use g_type_breaks::types::WireTypes;
+use g_diagram_table::Entry;
+use g_rules_types::panels::{ObjectTypes, Panels};
+use g_rules_types::types::WireTypes;
 use std::alloc::{AllocError, Global};
 
 /// What a node's border lines give outside.

@@ -2,25 +2,25 @@
 
 ghost use Rattle.std.specs.Prelude.{◌≡◌, ◌++◌, ◌∷◌, [], map, IfOk, OnOk, Some, None, true};
 ghost use Rattle.std.specs.Option.{option_copied};
-ghost use Rattle.g_operations.specs.Kinds as kinds;
-ghost use Rattle.g_table.specs.Seen.{seen, seen_arm, seen_part, seen_kind};
+ghost use Rattle.g_prims_definitions.specs.Kinds as kinds;
+ghost use Rattle.g_diagram_table.specs.Seen.{seen, seen_arm, seen_part, seen_kind};
 ghost use Rattle.g_typing.specs.Rows.{has_rows};
 ghost use Rattle.g_typing.specs.Types as types_spec;
 ghost use Rattle.g_typing.specs.Typing as spec;
 ghost use Rattle.g_infer.specs.Given.{seen_given};
-ghost use Rattle.g_type_breaks.specs.Known.{types_of};
-ghost use Rattle.g_type_breaks.specs.Panels.{callees_in, objects_in};
+ghost use Rattle.g_rules_types.specs.Known.{types_of};
+ghost use Rattle.g_rules_types.specs.Panels.{callees_in, objects_in};
 
 use g_diagram::{PanelItem, SharedOp, Tunnel, Wire};
+use g_diagram_table::{Arm, Entry, Kind, Part};
 use g_lists::{Boxed, List};
 use g_prims::{RowRefused, type_row};
-use g_table::{Arm, Entry, Kind, Part};
-use g_type_breaks::assigned::{next_result, result_type};
-use g_type_breaks::kinds::{element, part, queued, referred};
-use g_type_breaks::panels::{ObjectTypes, Panels, called, object};
-use g_type_breaks::passes::push_misses;
-use g_type_breaks::rows::wire_types;
-use g_type_breaks::types::{WireTypes, type_at, wire_type};
+use g_rules_types::assigned::{next_result, result_type};
+use g_rules_types::kinds::{element, part, queued, referred};
+use g_rules_types::panels::{ObjectTypes, Panels, called, object};
+use g_rules_types::passes::push_misses;
+use g_rules_types::rows::wire_types;
+use g_rules_types::types::{WireTypes, type_at, wire_type};
 use g_types::{Rep, Ty, TyList, copy};
 use g_values::Primitive;
 use std::alloc::{AllocError, Global};

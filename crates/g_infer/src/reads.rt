@@ -2,7 +2,7 @@
 
 ghost use Rattle.std.specs.Prelude.{◌≡◌, ◌++◌, ◌∷◌, [], map, IfOk, OnOk};
 ghost use Rattle.std.specs.Option.{option_copied};
-ghost use Rattle.g_table.specs.Seen.{seen_arm, seen_kind};
+ghost use Rattle.g_diagram_table.specs.Seen.{seen_arm, seen_kind};
 ghost use Rattle.g_typing.specs.Types as types;
 ghost use Rattle.g_typing.proofs.Local as spec;
 ghost use Rattle.g_typing.proofs.Steps.{one_result_reads};
@@ -11,7 +11,7 @@ ghost use Rattle.g_infer.specs.Steps.{seen_step};
 
 use crate::steps::Step;
 use g_diagram::{Tunnel, Wire};
-use g_table::{Arm, Entry, Kind};
+use g_diagram_table::{Arm, Entry, Kind};
 use std::alloc::{AllocError, Global};
 
 /// A name that a step reads in a diagram.

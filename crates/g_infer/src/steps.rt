@@ -2,13 +2,13 @@
 //! outside.
 
 ghost use Rattle.std.specs.Prelude.{◌≡◌, ◌++◌, ◌∷◌, [], map, IfOk, OnOk, None};
-ghost use Rattle.g_table.specs.Seen.{seen, seen_arm, seen_part, seen_kind};
+ghost use Rattle.g_diagram_table.specs.Seen.{seen, seen_arm, seen_part, seen_kind};
 ghost use Rattle.g_infer.specs.Steps as spec;
 ghost use Rattle.g_infer.specs.Steps.{seen_step};
 
 use g_diagram::{PanelItem, Tunnel, Wire};
-use g_table::{Arm, Entry, Kind, Part};
-use g_type_breaks::assigned::next_result;
+use g_diagram_table::{Arm, Entry, Kind, Part};
+use g_rules_types::assigned::next_result;
 use std::alloc::{AllocError, Global};
 
 /// A step. Each gives types to sources, by the types at the operands that it reads.

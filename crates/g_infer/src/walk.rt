@@ -1,14 +1,14 @@
 //! The types of a VI's wires, step by step.
 
 ghost use Rattle.std.specs.Prelude.{◌≡◌, ◌<◌, ◌∷◌, [], length, map, slice_get, Some, IfOk, OnOk};
-ghost use Rattle.g_table.specs.Seen.{seen};
+ghost use Rattle.g_diagram_table.specs.Seen.{seen};
 ghost use Rattle.g_typing.proofs.Agreed.{Typed as IsTypingBy};
 ghost use Rattle.g_typing.specs.Typing.{panel_type};
-ghost use Rattle.g_typable.specs.Typable.{IsTypable};
+ghost use Rattle.g_typing_laws.specs.Typable.{IsTypable};
 ghost use Rattle.g_infer.specs.Given.{seen_given};
 ghost use Rattle.g_infer.specs.Gives.{form_gives};
-ghost use Rattle.g_type_breaks.specs.Known.{types_of};
-ghost use Rattle.g_type_breaks.specs.Panels.{callees_in, objects_in};
+ghost use Rattle.g_rules_types.specs.Known.{types_of};
+ghost use Rattle.g_rules_types.specs.Panels.{callees_in, objects_in};
 ghost use Rattle.g_infer.specs.Steps.{seen_step};
 ghost use Rattle.g_infer.specs.Walking.{CanWalk, HasWalked, IsAfter, steps_of};
 
@@ -17,10 +17,10 @@ use crate::gives::push_gives;
 use crate::giving::Given;
 use crate::steps::{Step, all_steps};
 use g_diagram::PanelItem;
-use g_order::order;
-use g_table::Entry;
-use g_type_breaks::panels::{ObjectTypes, Panels};
-use g_type_breaks::types::WireTypes;
+use g_diagram_table::Entry;
+use g_graph_order::order;
+use g_rules_types::panels::{ObjectTypes, Panels};
+use g_rules_types::types::WireTypes;
 use std::alloc::{AllocError, Global};
 use std::collections::BTreeMap;
 

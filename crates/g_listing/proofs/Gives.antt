@@ -7,8 +7,8 @@ use Rattle.g_grammar.specs.Reads.{Stops, with_front}
 use Rattle.g_grammar.specs.declared.Stop.{Stop}
 use Rattle.g_grammar.specs.declared.Stop.TheVariants as stop
 use Rattle.g_tokens.specs.declared.token.Token.{Token}
-use Rattle.g_syntax.specs.Words.{word, wire, eol}
-use Rattle.g_syntax.specs.Nodes.{gives}
+use Rattle.g_listing_grammar.specs.Words.{word, wire, eol}
+use Rattle.g_listing_grammar.specs.Nodes.{gives}
 
 pub gives_none : (n : ℕ) (ts : List Token) → n ≡ 0 → read (gives n) ts ≡ Ok ([], ts)
 gives_none zero ts e = refl

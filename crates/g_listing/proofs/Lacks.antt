@@ -16,39 +16,39 @@ use Rattle.g_diagram.specs.declared.hierarchy.Vi.{Vi}
 use Rattle.g_diagram.specs.declared.hierarchy.Hierarchy.{Hierarchy}
 use Rattle.g_tokens.specs.declared.token.Token.{Token}
 use Rattle.g_tokens.specs.declared.token.Token.TheVariants as token
-use Rattle.g_words.specs.declared.Operation.{Operation}
-use Rattle.g_words.specs.declared.Operation.TheVariants as operation
-use Rattle.g_syntax.specs.declared.TypeWord.{TypeWord}
-use Rattle.g_syntax.specs.declared.TypeWord.TheVariants as type
-use Rattle.g_syntax.specs.declared.LiteralFirst.{LiteralFirst}
-use Rattle.g_syntax.specs.declared.LiteralFirst.TheVariants as begin
-use Rattle.g_syntax.specs.declared.LineWord.{LineWord}
-use Rattle.g_syntax.specs.declared.LineWord.TheVariants as line
-use Rattle.g_syntax.specs.declared.Border.{Border}
-use Rattle.g_syntax.specs.declared.Border.TheVariants as border
-use Rattle.g_syntax.specs.declared.SelectorFirst.{SelectorFirst}
-use Rattle.g_syntax.specs.declared.SelectorFirst.TheVariants as begins
-use Rattle.g_syntax.specs.declared.PlainWord.{PlainWord}
-use Rattle.g_syntax.specs.declared.PlainWord.TheVariants as plain
-use Rattle.g_syntax.specs.declared.StructureWord.{StructureWord}
-use Rattle.g_syntax.specs.declared.StructureWord.TheVariants as structure
-use Rattle.g_syntax.specs.declared.NodeWord.{NodeWord}
-use Rattle.g_syntax.specs.declared.NodeWord.TheVariants as word_of
-use Rattle.g_syntax.specs.declared.Until.{Until}
-use Rattle.g_syntax.specs.declared.Until.TheVariants as until
-use Rattle.g_syntax.specs.declared.HeaderWord.{HeaderWord}
-use Rattle.g_syntax.specs.declared.HeaderWord.TheVariants as header
-use Rattle.g_syntax.specs.declared.ClonesWord.TheVariants as clones_word
-use Rattle.g_syntax.specs.declared.PanelWord.{PanelWord}
-use Rattle.g_syntax.specs.declared.PanelWord.TheVariants as panel_word
-use Rattle.g_syntax.specs.declared.ControlMark.{ControlMark}
-use Rattle.g_syntax.specs.declared.ControlMark.TheVariants as control
-use Rattle.g_syntax.specs.Words.{wire}
-use Rattle.g_syntax.specs.Types.{types, type_rest, others, more_others}
-use Rattle.g_syntax.specs.Literals.{next_item, array_rest, literal_rest, literals}
-use Rattle.g_syntax.specs.Borders.{Wire, outputs, operands, last_wire, to_wire, across, turned, through, register_rest, result_end, line_rest, line_or_end, lines_to}
-use Rattle.g_syntax.specs.Nodes.{range_rest, selector_rest, selector_item, further_selectors, gives, Inside, more_or_end, branch_rest, frame_rest, further_frames, node_or_end, lines_and_body, operation_rest, plain_rest, structure_rest, nodes_of, node_first, node_rest, nodes}
-use Rattle.g_syntax.specs.Listing.{system_end, after_clones, kind_rest, default_rest, control_rest, panel_rest, Begin, body_item, nodes_after, vi_rest, vi_or_end, vi_word, at_end, listing}
+use Rattle.g_listing_words.specs.declared.Operation.{Operation}
+use Rattle.g_listing_words.specs.declared.Operation.TheVariants as operation
+use Rattle.g_listing_grammar.specs.declared.TypeWord.{TypeWord}
+use Rattle.g_listing_grammar.specs.declared.TypeWord.TheVariants as type
+use Rattle.g_listing_grammar.specs.declared.LiteralFirst.{LiteralFirst}
+use Rattle.g_listing_grammar.specs.declared.LiteralFirst.TheVariants as begin
+use Rattle.g_listing_grammar.specs.declared.LineWord.{LineWord}
+use Rattle.g_listing_grammar.specs.declared.LineWord.TheVariants as line
+use Rattle.g_listing_grammar.specs.declared.Border.{Border}
+use Rattle.g_listing_grammar.specs.declared.Border.TheVariants as border
+use Rattle.g_listing_grammar.specs.declared.SelectorFirst.{SelectorFirst}
+use Rattle.g_listing_grammar.specs.declared.SelectorFirst.TheVariants as begins
+use Rattle.g_listing_grammar.specs.declared.PlainWord.{PlainWord}
+use Rattle.g_listing_grammar.specs.declared.PlainWord.TheVariants as plain
+use Rattle.g_listing_grammar.specs.declared.StructureWord.{StructureWord}
+use Rattle.g_listing_grammar.specs.declared.StructureWord.TheVariants as structure
+use Rattle.g_listing_grammar.specs.declared.NodeWord.{NodeWord}
+use Rattle.g_listing_grammar.specs.declared.NodeWord.TheVariants as word_of
+use Rattle.g_listing_grammar.specs.declared.Until.{Until}
+use Rattle.g_listing_grammar.specs.declared.Until.TheVariants as until
+use Rattle.g_listing_grammar.specs.declared.HeaderWord.{HeaderWord}
+use Rattle.g_listing_grammar.specs.declared.HeaderWord.TheVariants as header
+use Rattle.g_listing_grammar.specs.declared.ClonesWord.TheVariants as clones_word
+use Rattle.g_listing_grammar.specs.declared.PanelWord.{PanelWord}
+use Rattle.g_listing_grammar.specs.declared.PanelWord.TheVariants as panel_word
+use Rattle.g_listing_grammar.specs.declared.ControlMark.{ControlMark}
+use Rattle.g_listing_grammar.specs.declared.ControlMark.TheVariants as control
+use Rattle.g_listing_grammar.specs.Words.{wire}
+use Rattle.g_listing_grammar.specs.Types.{types, type_rest, others, more_others}
+use Rattle.g_listing_grammar.specs.Literals.{next_item, array_rest, literal_rest, literals}
+use Rattle.g_listing_grammar.specs.Borders.{Wire, outputs, operands, last_wire, to_wire, across, turned, through, register_rest, result_end, line_rest, line_or_end, lines_to}
+use Rattle.g_listing_grammar.specs.Nodes.{range_rest, selector_rest, selector_item, further_selectors, gives, Inside, more_or_end, branch_rest, frame_rest, further_frames, node_or_end, lines_and_body, operation_rest, plain_rest, structure_rest, nodes_of, node_first, node_rest, nodes}
+use Rattle.g_listing_grammar.specs.Listing.{system_end, after_clones, kind_rest, default_rest, control_rest, panel_rest, Begin, body_item, nodes_after, vi_rest, vi_or_end, vi_word, at_end, listing}
 
 -- ---- a grammar that never takes a token
 

@@ -6,10 +6,10 @@ use Rattle.g_grammar.specs.Reads.{Gives}
 use Rattle.g_grammar.specs.declared.Stop.{Stop}
 use Rattle.g_diagram.specs.declared.node.Node.{Node}
 use Rattle.g_tokens.specs.declared.token.Token.{Token}
-use Rattle.g_syntax.specs.declared.PlainWord.{PlainWord}
-use Rattle.g_syntax.specs.declared.StructureWord.{StructureWord}
-use Rattle.g_syntax.specs.declared.NodeWord.TheVariants as word_of
-use Rattle.g_syntax.specs.Nodes.{plain_rest, structure_rest, node_rest, nodes}
+use Rattle.g_listing_grammar.specs.declared.PlainWord.{PlainWord}
+use Rattle.g_listing_grammar.specs.declared.StructureWord.{StructureWord}
+use Rattle.g_listing_grammar.specs.declared.NodeWord.TheVariants as word_of
+use Rattle.g_listing_grammar.specs.Nodes.{plain_rest, structure_rest, node_rest, nodes}
 
 pub plain_gives : (v n : ℕ) (w : PlainWord) (ts : List Token) (result : Result (Node × Bor (List Token)) (Stop Token)) → Gives result (read (plain_rest w) ts) → Gives result (read (node_rest v n (word_of.Plain w)) ts)
 unfolding node_rest

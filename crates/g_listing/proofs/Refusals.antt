@@ -11,8 +11,8 @@ use Rattle.g_tokens.specs.declared.token.Token.{Token}
 use Rattle.g_tokens.specs.declared.token.Token.TheVariants as token
 use Rattle.g_tokens.specs.declared.token.Spot.{Spot}
 use Rattle.g_tokens.specs.Tokens.{lines, cut, lines_tokens, line_tokens, lexemes, content, placed, placed_tokens, tokens_of, places_of}
-use Rattle.g_syntax.specs.Listing.{listing, HasHierarchy, IsListing}
-use Rattle.g_syntax.proofs.LiveListing.{live_listing}
+use Rattle.g_listing_grammar.specs.Listing.{listing, HasHierarchy, IsListing}
+use Rattle.g_listing_grammar.proofs.LiveListing.{live_listing}
 use Rattle.g_listing.specs.declared.listing.ListingRefused.TheVariants as refused
 use Rattle.g_listing.specs.Refusal.{IsOnly, IsRefusal}
 use Rattle.g_listing.proofs.Lacks.{Ends, listing_ends, nothing_after}

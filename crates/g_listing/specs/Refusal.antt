@@ -4,7 +4,7 @@ use Rattle.g_diagram.specs.declared.hierarchy.Hierarchy.{Hierarchy}
 use Rattle.g_tokens.specs.declared.token.Token.{Token}
 use Rattle.g_tokens.specs.declared.token.Spot.{Spot}
 use Rattle.g_tokens.specs.Tokens.{placed_tokens, tokens_of}
-use Rattle.g_syntax.specs.Listing.{HasHierarchy, IsListing}
+use Rattle.g_listing_grammar.specs.Listing.{HasHierarchy, IsListing}
 use Rattle.g_listing.specs.declared.listing.ListingRefused.{ListingRefused}
 use Rattle.g_listing.specs.declared.listing.ListingRefused.TheVariants as refused
 

@@ -3,20 +3,20 @@
 ghost use Rattle.std.specs.Prelude.{◌≡◌, codes};
 ghost use Rattle.g_grammar.specs.Grammar.{read, take, bind, loop, or_else, exactly};
 ghost use Rattle.g_grammar.specs.Reads.{Gives, Passes, Turns, sum_of};
-ghost use Rattle.g_syntax.specs.Words.{wire, word, eol, word_in};
-ghost use Rattle.g_syntax.specs.Borders.{lines_to};
+ghost use Rattle.g_listing_grammar.specs.Words.{wire, word, eol, word_in};
+ghost use Rattle.g_listing_grammar.specs.Borders.{lines_to};
 ghost use Rattle.g_listing.specs.Results.{is_result};
-ghost use Rattle.g_syntax.specs.Nodes.{selector_first, results, gives, ends_of, nodes, node_first, node_rest, node_or_end, structure_rest, lines_and_body, branch_rest, frame_rest, framed, further_frames, more_or_end};
+ghost use Rattle.g_listing_grammar.specs.Nodes.{selector_first, results, gives, ends_of, nodes, node_first, node_rest, node_or_end, structure_rest, lines_and_body, branch_rest, frame_rest, framed, further_frames, more_or_end};
 
 use crate::node_words::{end_named, node_first};
 use g_diagram::{Branch, Diagram, Node, SequenceFrame, Tunnel, Wire};
-use g_forms::{
+use g_grammar::{Stop, Turn};
+use g_listing_forms::{
     Passed, Read, across, eol, keyword, last_wire, lines, plain_rest, push, selector_first,
     selectors, wire,
 };
-use g_grammar::{Stop, Turn};
+use g_listing_grammar::{Border, NodeWord, StructureWord, Until};
 use g_lists::List;
-use g_syntax::{Border, NodeWord, StructureWord, Until};
 use g_tokens::Token;
 use std::alloc::Global;
 

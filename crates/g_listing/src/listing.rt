@@ -1,7 +1,7 @@
 //! The public call.
 
 ghost use Rattle.std.specs.Prelude.{◌≡◌, ◌+◌, ◌-◌, ◌<◌, ◌≤◌, ◌^◌, length, slice_get, IfOk, IfErr};
-ghost use Rattle.g_syntax.specs.Listing.{IsListing};
+ghost use Rattle.g_listing_grammar.specs.Listing.{IsListing};
 ghost use Rattle.g_listing.specs.Refusal.{IsOnly, IsRefusal};
 
 use crate::vis::listing;

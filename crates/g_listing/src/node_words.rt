@@ -1,12 +1,12 @@
 //! The words that begin nodes and end diagrams.
 
 ghost use Rattle.std.specs.Prelude.{◌≡◌};
-ghost use Rattle.g_words.specs.Operations.{lookup};
-ghost use Rattle.g_syntax.specs.Words.{node_words, node_named};
-ghost use Rattle.g_syntax.specs.Nodes.{ends_of, fitting_node};
+ghost use Rattle.g_listing_words.specs.Operations.{lookup};
+ghost use Rattle.g_listing_grammar.specs.Words.{node_words, node_named};
+ghost use Rattle.g_listing_grammar.specs.Nodes.{ends_of, fitting_node};
 
-use g_syntax::{NodeWord, PlainWord, StructureWord, Until};
-use g_words::operation_named;
+use g_listing_grammar::{NodeWord, PlainWord, StructureWord, Until};
+use g_listing_words::operation_named;
 
 /// The node that a word begins which is no operation.
 fn own_named(word: &[u8]) -> Option<NodeWord>

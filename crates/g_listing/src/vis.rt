@@ -2,15 +2,15 @@
 
 ghost use Rattle.g_grammar.specs.Grammar.{read, take, bind, loop, or_else};
 ghost use Rattle.g_grammar.specs.Reads.{Gives, Turns};
-ghost use Rattle.g_syntax.specs.Listing.{body_first, body_item, nodes_after, vi_rest, vi_word, at_end, vi_or_end, vis, listing};
+ghost use Rattle.g_listing_grammar.specs.Listing.{body_first, body_item, nodes_after, vi_rest, vi_word, at_end, vi_or_end, vis, listing};
 
 use crate::diagrams::{node_rest, nodes};
 use crate::node_words::node_first;
 use g_diagram::{Diagram, Hierarchy, Node, PanelItem, Vi};
-use g_forms::{Read, eol, keyword, kind, name, panel_named, panel_rest, push, version};
 use g_grammar::{Stop, Turn};
+use g_listing_forms::{Read, eol, keyword, kind, name, panel_named, panel_rest, push, version};
+use g_listing_grammar::Until;
 use g_lists::List;
-use g_syntax::Until;
 use g_tokens::Token;
 use std::alloc::Global;
 

@@ -26,8 +26,8 @@ use Rattle.g_values.proofs.ProperLemmas.{proper_num, proper_bool, proper_nums, p
 use Rattle.g_values.proofs.ProperParts.{proper_text, proper_array}
 use Rattle.g_values.proofs.SpelledTypes.{layer-Arr, layer-Cluster, spelled_item, spelled_parts}
 use Rattle.g_values.proofs.TypesOf.{type-Num, type-Bool, type-Str, type-Nums, type-Arr, type-Cluster}
-use Rattle.g_operations.specs.Arrays.{number_of}
-use Rattle.g_operations.specs.Kinds.{is_bool_at, is_str_at}
+use Rattle.g_prims_definitions.specs.Arrays.{number_of}
+use Rattle.g_prims_definitions.specs.Kinds.{is_bool_at, is_str_at}
 use Rattle.g_diagram.specs.declared.panel.Lit.{Lit}
 use Rattle.g_diagram.specs.declared.panel.Lit.TheOpen.{Lit-F}
 use Rattle.g_diagram.specs.declared.panel.Lit.TheVariants as lit

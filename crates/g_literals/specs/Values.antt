@@ -8,8 +8,8 @@ use Rattle.g_values.specs.Default.{default}
 use Rattle.g_values.specs.Number.{num_of}
 use Rattle.g_values.specs.declared.value.Value.{Value}
 use Rattle.g_values.specs.declared.value.Value.TheVariants as value
-use Rattle.g_operations.specs.Arithmetic.{nothing, numbers}
-use Rattle.g_operations.specs.Arrays.{number_of}
+use Rattle.g_prims_definitions.specs.Arithmetic.{nothing, numbers}
+use Rattle.g_prims_definitions.specs.Arrays.{number_of}
 use Rattle.g_diagram.specs.declared.panel.Lit.{Lit, fold-Lit}
 use Rattle.g_diagram.specs.declared.panel.Lit.TheOpen.{Lit-F}
 

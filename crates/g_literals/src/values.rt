@@ -2,7 +2,7 @@
 
 ghost use Rattle.std.specs.Prelude.{◌≡◌, map, IfOk};
 ghost use Rattle.g_types.specs.declared.ty.Ty.{out-Ty};
-ghost use Rattle.g_operations.specs.Arrays as arrays;
+ghost use Rattle.g_prims_definitions.specs.Arrays as arrays;
 ghost use Rattle.g_literals.specs.Values as spec;
 
 use g_diagram::Lit;

@@ -5,8 +5,8 @@ use Rattle.std.specs.List.{list_all}
 use Rattle.std.proofs.lemmas.Bool.Decides.{nat_tests}
 use Rattle.g_types.specs.declared.ty.Ty.{Ty}
 use Rattle.g_types.specs.declared.ty.Ty.TheVariants as ty
-use Rattle.g_operations.specs.Row.{repeated, refused}
-use Rattle.g_operations.specs.Rows.{is_shallow}
+use Rattle.g_prims_definitions.specs.Row.{repeated, refused}
+use Rattle.g_prims_definitions.specs.Rows.{is_shallow}
 use Rattle.g_prims.specs.Refusals.{first_out}
 
 chosen : (b : Bool) (k j : ℕ) (o : Option ℕ) (r : ℕ) → (o ≡ Some j → r ≡ j) → cond b o (Some (k + 1)) ≡ Some j → cond b r (k + 1) ≡ j

@@ -5,7 +5,7 @@ use Rattle.g_types.specs.declared.ty.Ty.{Ty}
 use Rattle.g_types.specs.declared.ty.Ty.TheVariants as ty
 use Rattle.g_types.specs.declared.ty.Ty.TheOpen.{Ty-F}
 use Rattle.g_types.specs.declared.ty.Ty.TheFolds.{fold-roll-Ty}
-use Rattle.g_operations.specs.Kinds.{has_reference, reference_step}
+use Rattle.g_prims_definitions.specs.Kinds.{has_reference, reference_step}
 
 any_mapped : (ts : List Ty) → list_any (λ b. b) (map has_reference ts) ≡ list_any has_reference ts
 any_mapped [] = refl

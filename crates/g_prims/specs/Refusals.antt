@@ -1,8 +1,8 @@
 -- Why types have no row.
 use Rattle.std.specs.Prelude.{ℕ, List, [], ◌∷◌, ◌≡◌, ◌+◌, ◌&&◌, Option, None, Some, cond, nat_lt}
 use Rattle.g_types.specs.declared.ty.Ty.{Ty}
-use Rattle.g_operations.specs.Row.{Row, read, place}
-use Rattle.g_operations.specs.Rows.{is_shallow}
+use Rattle.g_prims_definitions.specs.Row.{Row, read, place}
+use Rattle.g_prims_definitions.specs.Rows.{is_shallow}
 use Rattle.g_prims.specs.declared.refusal.RowRefused.{RowRefused}
 use Rattle.g_prims.specs.declared.refusal.RowRefused.TheVariants.{NoRow, Memory}
 

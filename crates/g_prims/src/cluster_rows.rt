@@ -1,9 +1,9 @@
 //! Rows of operations on clusters.
 
 ghost use Rattle.std.specs.Prelude.{◌≡◌, IfOk, IfErr, Some};
-ghost use Rattle.g_operations.specs.Kinds as kinds;
-ghost use Rattle.g_operations.specs.Row.{read};
-ghost use Rattle.g_operations.specs.Rows as spec;
+ghost use Rattle.g_prims_definitions.specs.Kinds as kinds;
+ghost use Rattle.g_prims_definitions.specs.Row.{read};
+ghost use Rattle.g_prims_definitions.specs.Rows as spec;
 ghost use Rattle.g_prims.specs.Refusals.{IsRefusal, first_out};
 ghost use Rattle.g_values.specs.declared.primitive.Primitive.TheVariants as op;
 

@@ -2,7 +2,7 @@
 
 ghost use Rattle.std.specs.Prelude.{◌≡◌, IfOk};
 ghost use Rattle.std.specs.List.{list_any};
-ghost use Rattle.g_operations.specs.Kinds as spec;
+ghost use Rattle.g_prims_definitions.specs.Kinds as spec;
 ghost use Rattle.g_types.specs.Same.{same_type};
 ghost use Rattle.g_types.specs.Ty as types;
 ghost use Rattle.g_values.specs.Spelled as values;

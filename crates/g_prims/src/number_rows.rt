@@ -1,8 +1,8 @@
 //! Rows of operations on numbers and Booleans.
 
 ghost use Rattle.std.specs.Prelude.{◌≡◌, IfOk, IfErr, Some};
-ghost use Rattle.g_operations.specs.Row.{read};
-ghost use Rattle.g_operations.specs.Rows as spec;
+ghost use Rattle.g_prims_definitions.specs.Row.{read};
+ghost use Rattle.g_prims_definitions.specs.Rows as spec;
 ghost use Rattle.g_prims.specs.Refusals.{IsRefusal};
 ghost use Rattle.g_values.specs.declared.primitive.Primitive.TheVariants as op;
 

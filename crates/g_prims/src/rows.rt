@@ -1,7 +1,7 @@
 //! The row of each primitive.
 
 ghost use Rattle.std.specs.Prelude.{◌≡◌, IfOk, IfErr, Some};
-ghost use Rattle.g_operations.specs.Rows as spec;
+ghost use Rattle.g_prims_definitions.specs.Rows as spec;
 ghost use Rattle.g_prims.specs.Refusals.{IsRefusal};
 
 use crate::array_rows::{

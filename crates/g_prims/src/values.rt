@@ -1,10 +1,10 @@
 //! The values that each primitive gives.
 
 ghost use Rattle.std.specs.Prelude.{◌≡◌, IfOk};
-ghost use Rattle.g_operations.specs.Conditions.{HasRow};
-ghost use Rattle.g_operations.specs.Values.{outputs_of};
+ghost use Rattle.g_prims_definitions.specs.Conditions.{HasRow};
+ghost use Rattle.g_prims_definitions.specs.Values.{outputs_of};
 
-use g_evaluation::evaluate;
+use g_prims_evaluation::evaluate;
 use g_values::{Primitive, ValueList};
 use std::alloc::{AllocError, Global};
 

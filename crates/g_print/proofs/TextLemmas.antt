@@ -1,7 +1,7 @@
 -- The text of a node and of a literal, by its variants, as the printer uses it.
 use Rattle.std.proofs.Common.{◌≡◌, ℕ, List, ◌∷◌, zero, suc, ◌+◌, arith, refl, ap, ◌∙◌}
 use Rattle.g_diagram.specs.Text.{indent}
-use Rattle.g_canonical.proofs.TextLemmas.{literal-Number, literal-Truth, literal-Text, literal-Null, literal-Array, literal-Cluster, node-Const, node-Apply, node-Shared, node-Obtain, node-Read, node-Write, node-Call, node-For, node-While, node-Case, node-Sequence, node-InPlace, diagram-nodes, branch-parts, frame-parts}
+use Rattle.g_print_laws.proofs.TextLemmas.{literal-Number, literal-Truth, literal-Text, literal-Null, literal-Array, literal-Cluster, node-Const, node-Apply, node-Shared, node-Obtain, node-Read, node-Write, node-Call, node-For, node-While, node-Case, node-Sequence, node-InPlace, diagram-nodes, branch-parts, frame-parts}
 
 pub ruleset literals = (literal-Number, literal-Truth, literal-Text, literal-Null, literal-Array, literal-Cluster)
 

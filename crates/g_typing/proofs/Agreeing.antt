@@ -2,7 +2,7 @@
 use Rattle.std.proofs.Common.{◌≡◌, ℕ, ◌+◌, List, [], ◌∷◌, ◌++◌, map, refl, ap, ◌∙◌}
 use Rattle.std.specs.Prelude.{Option, Some}
 use Rattle.g_types.specs.declared.ty.Ty.{Ty}
-use Rattle.g_operations.specs.Kinds.{part}
+use Rattle.g_prims_definitions.specs.Kinds.{part}
 use Rattle.g_diagram.specs.declared.place.Place.{Place}
 use Rattle.g_diagram.specs.declared.panel.PanelItem.{PanelItem}
 use Rattle.g_diagram.specs.declared.node.SharedOp.{SharedOp}

@@ -7,7 +7,7 @@ use Rattle.g_types.specs.declared.ty.Ty as types
 use Rattle.g_types.specs.declared.ty.Ty.{Ty}
 use Rattle.g_types.specs.declared.ty.Ty.TheVariants as ty
 use Rattle.g_types.proofs.Depths.{depth-Num, depth-Bool, depth-Str, depth-Arr, depth-Cluster, depth-QueueRef, depth-ValueRef}
-use Rattle.g_operations.proofs.Folds.{folds}
+use Rattle.g_prims_definitions.proofs.Folds.{folds}
 use Rattle.g_diagram.specs.declared.place.Break.{Break}
 use Rattle.g_diagram.specs.declared.panel.PanelItem.{PanelItem}
 use Rattle.g_diagram.specs.declared.hierarchy.Vi.{Vi}

@@ -1,7 +1,7 @@
 -- Whether a literal is a value of a type, by its variants.
 use Rattle.std.proofs.Common.{◌≡◌, ℕ, ℤ, Bool, ◌&&◌, List, map, ap, sym, ◌∙◌}
 use Rattle.g_types.specs.declared.ty.Ty.{Ty, out-Ty}
-use Rattle.g_operations.specs.Kinds.{is_bool, is_str}
+use Rattle.g_prims_definitions.specs.Kinds.{is_bool, is_str}
 use Rattle.g_diagram.specs.declared.panel.Lit.{Lit}
 use Rattle.g_diagram.specs.declared.panel.Lit.TheVariants as lit
 use Rattle.g_diagram.specs.declared.panel.Lit.TheOpen.{Lit-F}

@@ -3,8 +3,8 @@ use Rattle.std.proofs.Common.{◌≡◌, ℕ, ◌+◌, Bool, List, [], ◌∷◌
 use Rattle.std.specs.Prelude.{Option, Some, None}
 use Rattle.g_types.specs.Ty.{is_num}
 use Rattle.g_types.specs.declared.ty.Ty.{Ty}
-use Rattle.g_operations.specs.Kinds.{part, array_of, is_bool}
-use Rattle.g_operations.specs.Rows.{is_element}
+use Rattle.g_prims_definitions.specs.Kinds.{part, array_of, is_bool}
+use Rattle.g_prims_definitions.specs.Rows.{is_element}
 use Rattle.g_diagram.specs.declared.node.Tunnel.{Tunnel}
 use Rattle.g_diagram.specs.declared.node.Tunnel.TheVariants as line
 use Rattle.g_diagram.specs.Lines.{Wire, Arm, Kind, Const, Apply, Shows, Shared, Obtain, Read, Write, Call, For, While, Case, Sequence, InPlace}

@@ -1,7 +1,7 @@
 -- Rule 17: consumers whose type isn't assignable to that of their place, where both are known.
 use Rattle.std.specs.Prelude.{ℕ, ◌+◌, List, [], ◌∷◌, ◌++◌, if◌then◌else◌, Option, Some, None}
 use Rattle.g_types.specs.declared.ty.Ty.{Ty}
-use Rattle.g_operations.specs.Kinds.{is_assignable, part}
+use Rattle.g_prims_definitions.specs.Kinds.{is_assignable, part}
 use Rattle.g_diagram.specs.declared.place.Place.{Place}
 use Rattle.g_diagram.specs.declared.node.SharedOp.{SharedOp}
 use Rattle.g_diagram.specs.declared.node.SharedOp.TheVariants as shared

@@ -7,7 +7,7 @@ use Rattle.g_types.specs.declared.ty.Ty.{Ty, out-Ty}
 use Rattle.g_types.specs.declared.ty.Ty.TheOpen.{Ty-F}
 use Rattle.g_types.specs.Ty.{is_num}
 use Rattle.g_values.specs.Proper.{most}
-use Rattle.g_operations.specs.Kinds.{is_bool, is_str}
+use Rattle.g_prims_definitions.specs.Kinds.{is_bool, is_str}
 use Rattle.g_diagram.specs.declared.place.Place.{Place}
 use Rattle.g_diagram.specs.declared.panel.Lit.{Lit, fold-Lit}
 use Rattle.g_diagram.specs.declared.panel.Lit.TheOpen.{Lit-F}

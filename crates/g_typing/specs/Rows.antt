@@ -4,8 +4,8 @@ use Rattle.g_types.specs.declared.ty.Ty.{Ty}
 use Rattle.g_types.specs.Ty.{is_num}
 use Rattle.g_values.specs.declared.primitive.Primitive.{Primitive}
 use Rattle.g_values.specs.declared.primitive.Primitive.TheVariants.{Unbundle}
-use Rattle.g_operations.specs.Kinds.{is_bool, part}
-use Rattle.g_operations.specs.Rows.{row_of, first_refused, is_shallow, is_element}
+use Rattle.g_prims_definitions.specs.Kinds.{is_bool, part}
+use Rattle.g_prims_definitions.specs.Rows.{row_of, first_refused, is_shallow, is_element}
 use Rattle.g_diagram.specs.declared.place.Place.{Place}
 use Rattle.g_diagram.specs.declared.node.SharedOp.{SharedOp}
 use Rattle.g_diagram.specs.declared.node.SharedOp.TheVariants as shared

@@ -4,7 +4,7 @@ use Rattle.g_types.specs.declared.rep.Rep.TheVariants.{I32}
 use Rattle.g_types.specs.declared.ty.Ty.{Ty, out-Ty}
 use Rattle.g_types.specs.declared.ty.Ty.TheVariants as ty
 use Rattle.g_types.specs.declared.ty.Ty.TheOpen.{Ty-F}
-use Rattle.g_operations.specs.Kinds.{item}
+use Rattle.g_prims_definitions.specs.Kinds.{item}
 use Rattle.g_diagram.specs.declared.place.Place.{Place}
 use Rattle.g_diagram.specs.Lines.{Wire}
 

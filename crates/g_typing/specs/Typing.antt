@@ -4,8 +4,8 @@ use Rattle.std.specs.Prelude.{ℕ, ◌+◌, ◌≡◌, ◌⊎◌, Bool, true, fa
 use Rattle.std.specs.Str.{bytes_eq}
 use Rattle.g_types.specs.declared.ty.Ty.{Ty}
 use Rattle.g_types.specs.declared.ty.Ty.TheVariants as ty
-use Rattle.g_operations.specs.Kinds.{part, array_of}
-use Rattle.g_operations.specs.Rows.{row_of}
+use Rattle.g_prims_definitions.specs.Kinds.{part, array_of}
+use Rattle.g_prims_definitions.specs.Rows.{row_of}
 use Rattle.g_values.specs.declared.primitive.Primitive.{Primitive}
 use Rattle.g_diagram.specs.declared.node.SharedOp.{SharedOp}
 use Rattle.g_diagram.specs.declared.node.SharedOp.TheVariants as shared

@@ -6,18 +6,18 @@ use Rattle.std.proofs.lemmas.List.Elements.{All-map}
 use denote.Ref.{Bor}
 use Rattle.g_diagram.specs.declared.hierarchy.Vi.{Vi}
 use Rattle.g_diagram.specs.Ports as ports
-use Rattle.g_ports.specs.declared.port.Port.{Port}
-use Rattle.g_ports.specs.Seen.{seen}
-use Rattle.g_ports.specs.Callees as callees
-use Rattle.g_ports.specs.Callees.{required_in, flags_of, is_free_by, freedom_by}
+use Rattle.g_diagram_ports.specs.declared.port.Port.{Port}
+use Rattle.g_diagram_ports.specs.Seen.{seen}
+use Rattle.g_diagram_ports.specs.Callees as callees
+use Rattle.g_diagram_ports.specs.Callees.{required_in, flags_of, is_free_by, freedom_by}
 use Rattle.g_wires.specs.declared.coded.Coded.{Coded}
 use Rattle.g_wires.specs.Coding.{Table, IsBelow, number_at, number_of, code_by, has_wire_of, Numbers}
 use Rattle.g_diagram.specs.declared.place.Break.{Break}
 use Rattle.g_wires.specs.Breaks.{named_in, plain_in}
-use Rattle.g_line_breaks.specs.Lists.{lined_by}
-use Rattle.g_line_breaks.specs.Lines.{Known, Queues, known_of, arities, first_queue, all_queues}
-use Rattle.g_line_breaks.specs.Names as names
-use Rattle.g_line_breaks.specs.Names.{arity_in, queue_at, known_by}
+use Rattle.g_rules_lines.specs.Lists.{lined_by}
+use Rattle.g_rules_lines.specs.Lines.{Known, Queues, known_of, arities, first_queue, all_queues}
+use Rattle.g_rules_lines.specs.Names as names
+use Rattle.g_rules_lines.specs.Names.{arity_in, queue_at, known_by}
 use Rattle.g_diagram.specs.declared.panel.PanelItem.{PanelItem}
 use Rattle.g_diagram.specs.Lines as lines
 use Rattle.g_diagram.specs.Lines.{entries_of}

@@ -9,11 +9,11 @@ use Rattle.std.proofs.lemmas.Slice.Eq.{bytes_eq-Decides}
 use denote.Ref.{Bor}
 use Rattle.g_diagram.specs.Ports as spec
 use Rattle.g_diagram.specs.Ports.{are_joined, is_before, same_wire, is_wired, sources, consumers, has_wire, feeds, is_node}
-use Rattle.g_ports.specs.declared.port.Port.{Port}
-use Rattle.g_ports.specs.Seen.{seen, seen_wire}
+use Rattle.g_diagram_ports.specs.declared.port.Port.{Port}
+use Rattle.g_diagram_ports.specs.Seen.{seen, seen_wire}
 use Rattle.g_wires.specs.declared.coded.Coded.{Coded}
 use Rattle.g_wires.specs.Wiring.{lacks_source, is_repeated, lacks_consumer, is_missing, unsourced, repeated, unused, spot}
-use Rattle.g_line_breaks.specs.Spots.{break}
+use Rattle.g_rules_lines.specs.Spots.{break}
 use Rattle.g_wires.specs.Breaks.{named_in}
 use Rattle.g_wires.specs.Coding.{Table, number_at, number_of, wire_at, code_by, is_numbered, has_wire_of, Numbers}
 use Rattle.g_wires.specs.Marks.{is_number, gives, takes, gives_before, is_ungiven, is_untaken, is_given_before, has_no_source, is_later_source, has_no_consumer, has_no_wire, coded_break, coded_breaks, coded_named, same_number_of, coded_feeds, coded_wire}

@@ -12,7 +12,7 @@ use Rattle.std.specs.BTreeMap.{btree_map_len}
 use Rattle.std.proofs.lemmas.Map.Text.{is_eq-slice_cmp}
 use Rattle.std.proofs.lemmas.Slice.Eq.{bytes_eq-Decides}
 use denote.Ref.{Bor}
-use Rattle.g_ports.specs.declared.port.Port.{Port}
+use Rattle.g_diagram_ports.specs.declared.port.Port.{Port}
 use Rattle.g_wires.specs.Coding.{Table, number_at, is_numbered, has_wire_of, Numbers}
 use Rattle.g_wires.proofs.Found.{and_left, and_right, and_both, same_number}
 

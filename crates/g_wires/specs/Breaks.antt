@@ -5,10 +5,10 @@ use Rattle.g_diagram.specs.declared.hierarchy.Vi.{Vi}
 use Rattle.g_diagram.specs.declared.hierarchy.Hierarchy.{Hierarchy}
 use Rattle.g_diagram.specs.Lines.{entries_of}
 use Rattle.g_diagram.specs.Ports.{Port, ports_of}
-use Rattle.g_breaks.specs.Breaks.{has_break, ListsEach}
-use Rattle.g_line_breaks.specs.Spots.{break}
-use Rattle.g_line_breaks.specs.Lines.{Known, known_of}
-use Rattle.g_line_breaks.specs.Lists.{lined_by, renamed_vis, absent_main}
+use Rattle.g_rules_breaks.specs.Breaks.{has_break, ListsEach}
+use Rattle.g_rules_lines.specs.Spots.{break}
+use Rattle.g_rules_lines.specs.Lines.{Known, known_of}
+use Rattle.g_rules_lines.specs.Lists.{lined_by, renamed_vis, absent_main}
 use Rattle.g_wires.specs.Wiring.{unsourced, repeated, unused, unwired, LeadsToItself}
 
 -- the breaks on names of one VI with these ports

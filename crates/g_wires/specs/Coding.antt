@@ -5,7 +5,7 @@ use Rattle.std.specs.Cmp.Lexicographic.{slice_cmp}
 use Rattle.std.specs.Option.{IsSome}
 use Rattle.std.specs.BTreeMap.{BTreeMap, get_by, btree_map_len}
 use denote.Ref.{Bor}
-use Rattle.g_ports.specs.declared.port.Port.{Port}
+use Rattle.g_diagram_ports.specs.declared.port.Port.{Port}
 use Rattle.g_wires.specs.declared.coded.Coded.{Coded}
 
 abbrev pub Table : Type 0

@@ -3,7 +3,7 @@ use Rattle.std.specs.Prelude.{ℕ, Bool, not, ◌&&◌, List, map, filter}
 use Rattle.std.specs.List.{list_any}
 use Rattle.g_diagram.specs.Ports.{Port, sources, consumers, are_joined, is_wired, is_before, has_wire}
 use Rattle.g_diagram.specs.Leads.{Leads}
-use Rattle.g_line_breaks.specs.Spots.{Spot}
+use Rattle.g_rules_lines.specs.Spots.{Spot}
 
 abbrev pub spot : Port → Spot
 spot p = record { line = p.line; operand = p.operand }

@@ -1,26 +1,26 @@
 //! The breaks of each VI.
 
 ghost use Rattle.std.specs.Prelude.{◌≡◌, ◌<◌, ◌++◌, length, map, IfOk, OnOk};
-ghost use Rattle.g_ports.specs.Callees.{freedom_by};
+ghost use Rattle.g_diagram_ports.specs.Callees.{freedom_by};
 ghost use Rattle.g_diagram.specs.Lines.{entries_of};
-ghost use Rattle.g_table.specs.Seen as table;
+ghost use Rattle.g_diagram_table.specs.Seen as table;
 ghost use Rattle.g_wires.specs.Breaks.{IsWiring, plain_in, each_from};
 ghost use Rattle.g_wires.specs.Checked.{ports_with, IsCoding, AddsCycles, CyclesBelow};
-ghost use Rattle.g_line_breaks.specs.Names.{known_by};
+ghost use Rattle.g_rules_lines.specs.Names.{known_by};
 
 use crate::coded::{Coded, code_all, wire_numbers};
 use crate::named::push_named;
 use crate::turns::{push_marked, turning_lines};
-use g_breaks::listed;
 use g_diagram::{Break, Hierarchy, Vi};
-use g_line_breaks::arities::{Arities, arities};
-use g_line_breaks::queues::{Queues, queues};
-use g_line_breaks::{next, push_absent, push_lined, push_vi_repeats};
+use g_diagram_ports::ports::ports_of;
+use g_diagram_ports::{Callees, callees};
+use g_diagram_table::Entry;
+use g_diagram_table::table::table;
 use g_lists::List;
-use g_ports::ports::ports_of;
-use g_ports::{Callees, callees};
-use g_table::Entry;
-use g_table::table::table;
+use g_rules_breaks::listed;
+use g_rules_lines::arities::{Arities, arities};
+use g_rules_lines::queues::{Queues, queues};
+use g_rules_lines::{next, push_absent, push_lined, push_vi_repeats};
 use g_types::Name;
 use std::alloc::{AllocError, Global};
 

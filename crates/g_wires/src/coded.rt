@@ -1,10 +1,10 @@
 //! Ports whose wires are numbers.
 
 ghost use Rattle.std.specs.Prelude.{◌≡◌, map, IfOk, OnOk, All};
-ghost use Rattle.g_ports.specs.declared.port.Port.{Port as ThePort};
+ghost use Rattle.g_diagram_ports.specs.declared.port.Port.{Port as ThePort};
 ghost use Rattle.g_wires.specs.Coding.{wire_at, code_by, has_wire_of, Numbers};
 
-use g_ports::Port;
+use g_diagram_ports::Port;
 use std::alloc::{AllocError, Global};
 use std::collections::BTreeMap;
 

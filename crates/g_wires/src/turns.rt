@@ -8,7 +8,7 @@ use crate::coded::Coded;
 use crate::edges::{graph_of, lines_of};
 use g_diagram::{Break, Place};
 use g_graph::cycles::cycles;
-use g_line_breaks::next;
+use g_rules_lines::next;
 use std::alloc::{AllocError, Global};
 
 /// Of each line, whether wires lead from its node to itself.

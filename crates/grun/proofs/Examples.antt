@@ -11,16 +11,16 @@ use Rattle.g_types.specs.declared.rep.Rep.TheVariants.{I32}
 use Rattle.g_types.proofs.Texts.{texts}
 use Rattle.g_values.specs.declared.value.Value.{Value}
 use Rattle.g_values.specs.declared.primitive.Primitive.TheVariants.{Add}
-use Rattle.g_operations.proofs.Folds.{folds}
+use Rattle.g_prims_definitions.proofs.Folds.{folds}
 use Rattle.g_tokens.specs.declared.token.Token.{Token}
 use Rattle.g_tokens.specs.declared.token.Token.TheVariants as token
 use Rattle.g_tokens.specs.declared.token.Mark.TheVariants as mark
 use Rattle.g_tokens.specs.Tokens.{characters, longest, lexemes, lines, placed_tokens, places_of, tokens_of}
-use Rattle.g_words.specs.Operations.{row_named}
-use Rattle.g_syntax.specs.Types as type_forms
-use Rattle.g_syntax.specs.Literals.{literal_rest}
-use Rattle.g_syntax.specs.Nodes.{node_rest}
-use Rattle.g_syntax.specs.Listing.{HasHierarchy, IsListing, listing}
+use Rattle.g_listing_words.specs.Operations.{row_named}
+use Rattle.g_listing_grammar.specs.Types as type_forms
+use Rattle.g_listing_grammar.specs.Literals.{literal_rest}
+use Rattle.g_listing_grammar.specs.Nodes.{node_rest}
+use Rattle.g_listing_grammar.specs.Listing.{HasHierarchy, IsListing, listing}
 use Rattle.g_listing.proofs.Refusals.{refused_in}
 use Rattle.g_valtext.specs.Spellings as value_texts
 use Rattle.g_valtext.proofs.Steps.{form-Num}
@@ -39,10 +39,10 @@ use Rattle.g_diagram.specs.Operands.{control_lines, entries_lines}
 use Rattle.g_diagram.specs.Ports.{Port, freedom, has_wire, ports_in, ports_of}
 use Rattle.g_diagram.specs.Text.{text_of}
 use Rattle.g_diagram.proofs.Trees.{Sketch, same_entries, sketch_entries, vi_of}
-use Rattle.g_breaks.specs.Breaks.{ListsEach, has_break}
-use Rattle.g_breaks.proofs.Ordered.{has_first, none_held}
-use Rattle.g_line_breaks.specs.Lines.{arities, first_queue, known_of, queues_in}
-use Rattle.g_line_breaks.specs.Lists.{absent_main, lined_by, renamed_vis}
+use Rattle.g_rules_breaks.specs.Breaks.{ListsEach, has_break}
+use Rattle.g_rules_breaks.proofs.Ordered.{has_first, none_held}
+use Rattle.g_rules_lines.specs.Lines.{arities, first_queue, known_of, queues_in}
+use Rattle.g_rules_lines.specs.Lists.{absent_main, lined_by, renamed_vis}
 use Rattle.g_wires.specs.Wiring.{LeadsToItself}
 use Rattle.g_wires.specs.Breaks.{Cycles, IsWiring, WiringBreak, named_in, plain_breaks}
 use Rattle.g_typing.specs.Types.{Types}
@@ -52,8 +52,8 @@ use Rattle.g_hier.specs.Answer.{IsTooLarge}
 use Rattle.g_hier.specs.Counts.{nodes_in}
 use Rattle.g_hier.specs.Outlines.{calls_at, calls_on, outlines_of}
 use Rattle.g_hier.specs.Recursion.{IsRecursion}
-use Rattle.g_check.specs.Checked.{IsBreak, IsUnbroken, wires, types, recursion, too_large}
-use Rattle.g_plain.specs.Plain.{IsPlain, is_plain_node_at}
+use Rattle.g_rules.specs.Checked.{IsBreak, IsUnbroken, wires, types, recursion, too_large}
+use Rattle.g_fire_form.specs.Plain.{IsPlain, is_plain_node_at}
 use Rattle.g_print.proofs.TextLemmas.{nodes}
 use Rattle.g_fire.specs.declared.firing.Firing.{Firing}
 use Rattle.g_fire.specs.Program.{Program}

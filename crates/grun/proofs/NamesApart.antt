@@ -13,12 +13,12 @@ use Rattle.g_diagram.specs.declared.hierarchy.Vi.{Vi}
 use Rattle.g_diagram.specs.declared.hierarchy.Hierarchy.{Hierarchy}
 use Rattle.g_diagram.specs.Lines.{entries_of}
 use Rattle.g_diagram.specs.Ports.{ports_of}
-use Rattle.g_line_breaks.specs.Lines.{known_of, named_again, panel_name, miscounted}
-use Rattle.g_line_breaks.specs.Lists.{called_by, lined_by, structured_by, renamed_items, renamed_vis, absent_main}
-use Rattle.g_line_breaks.specs.Spots.{break}
-use Rattle.g_breaks.specs.Breaks.{break_cmp, has_break}
+use Rattle.g_rules_lines.specs.Lines.{known_of, named_again, panel_name, miscounted}
+use Rattle.g_rules_lines.specs.Lists.{called_by, lined_by, structured_by, renamed_items, renamed_vis, absent_main}
+use Rattle.g_rules_lines.specs.Spots.{break}
+use Rattle.g_rules_breaks.specs.Breaks.{break_cmp, has_break}
 use Rattle.g_wires.specs.Breaks.{named_in, plain_in, each_from, plain_breaks, IsWiring}
-use Rattle.g_breaks.proofs.Ordered.{none_in, none_held}
+use Rattle.g_rules_breaks.proofs.Ordered.{none_in, none_held}
 use Rattle.grun.specs.Settings.{find, controls}
 use Rattle.grun.proofs.Finding.{find-append}
 

@@ -8,8 +8,8 @@ use Rattle.g_diagram.specs.declared.hierarchy.Vi.{Vi}
 use Rattle.g_fire.specs.declared.firing.Firing.{Firing}
 use Rattle.g_hier.specs.Outlines.{number_of}
 use Rattle.g_line.specs.declared.forms.Setting.{Setting}
-use Rattle.g_plain.specs.Plain as plain
-use Rattle.g_plain.specs.Plain.{IsPlain, PlainRuns}
+use Rattle.g_fire_form.specs.Plain as plain
+use Rattle.g_fire_form.specs.Plain.{IsPlain, PlainRuns}
 use Rattle.grun.specs.Answer.{Reply, reply, Runs, IsRunAnswer, control, ran}
 use Rattle.grun.specs.Ready.{IsReady}
 use Rattle.grun.specs.Settings.{Named, Wrong, Right, given, control_values}

@@ -27,8 +27,8 @@ use Rattle.g_infer.specs.declared.typed.Typed.{Typed}
 use Rattle.g_infer.specs.declared.typed.ViTypes.{ViTypes}
 use Rattle.g_line.specs.declared.forms.Setting.{Setting}
 use Rattle.g_literals.proofs.TypedValues.{typed_literal}
-use Rattle.g_row_laws.specs.Laws.{AreOfTypes}
-use Rattle.g_spelled.specs.Spelled.{IsItemSpelled, IsViSpelled}
+use Rattle.g_prims_laws.specs.Laws.{AreOfTypes}
+use Rattle.g_listing_laws.specs.Spelled.{IsItemSpelled, IsViSpelled}
 use Rattle.g_typing.specs.Assigned.{unassignable}
 use Rattle.g_typing.specs.Breaks.{TypeBreak, broken, breaks_with}
 use Rattle.g_typing.specs.Literals.{is_default_of, item_mistakes, panel_mistakes, nodes_mistake, mistaken}

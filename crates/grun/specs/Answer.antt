@@ -6,7 +6,7 @@ use Rattle.g_diagram.specs.declared.place.Break.{Break}
 use Rattle.g_diagram.specs.declared.hierarchy.Hierarchy.{Hierarchy}
 use Rattle.g_diagram.specs.Text.{text_of}
 use Rattle.g_tokens.specs.declared.token.Spot.{Spot}
-use Rattle.g_syntax.specs.Listing.{IsListing}
+use Rattle.g_listing_grammar.specs.Listing.{IsListing}
 use Rattle.g_listing.specs.Refusal.{IsRefusal}
 use Rattle.g_listing.specs.declared.listing.ListingRefused.TheVariants.{Syntax}
 use Rattle.g_line.specs.declared.forms.Setting.{Setting}
@@ -14,10 +14,10 @@ use Rattle.g_line.specs.declared.forms.Line.{Line}
 use Rattle.g_line.specs.declared.forms.Line.TheVariants.{Run, Check, Print}
 use Rattle.g_line.specs.Forms.{HasLine}
 use Rattle.g_line.specs.Usage.{IsFirstWrong}
-use Rattle.g_breaks.specs.Breaks.{ListsEach}
-use Rattle.g_check.specs.Checked.{IsBreak, IsUnbroken}
+use Rattle.g_rules_breaks.specs.Breaks.{ListsEach}
+use Rattle.g_rules.specs.Checked.{IsBreak, IsUnbroken}
 use Rattle.g_hier.specs.Outlines.{number_of}
-use Rattle.g_plain.specs.Plain.{IsPlain}
+use Rattle.g_fire_form.specs.Plain.{IsPlain}
 use Rattle.g_fire.specs.declared.firing.Firing.{Firing}
 use Rattle.g_fire.specs.declared.state.FireState.{FireState}
 use Rattle.g_fire.specs.Program.{program}

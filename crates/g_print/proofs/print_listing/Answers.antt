@@ -1,8 +1,8 @@
 use Rattle.std.proofs.Common.{[], ◌++◌, List, ℕ, ap, sym, subst, ◌∙◌, codes}
 use Rattle.std.proofs.lemmas.List.{append-nil}
 use Rattle.g_diagram.specs.Text as spec
-use Rattle.g_syntax.specs.Listing.{IsListing}
-use Rattle.g_canonical.proofs.ListingParts.{reads_back, alone}
+use Rattle.g_listing_grammar.specs.Listing.{IsListing}
+use Rattle.g_print_laws.proofs.ListingParts.{reads_back, alone}
 use Rattle.g_print.proofs.print_listing.Goals as goal
 
 pub returns-clause-text : goal.returns-clause-text

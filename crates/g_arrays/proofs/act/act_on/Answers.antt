@@ -2,7 +2,7 @@ use Rattle.std.proofs.Common.{◌≡◌, [], ◌∷◌, subst}
 use Rattle.std.specs.List.{All}
 use Rattle.std.proofs.lemmas.Result.{IfOk-weaker}
 use Rattle.g_values.specs.Proper.{IsProper}
-use Rattle.g_operations.specs.Values.{outputs_of}
+use Rattle.g_prims_definitions.specs.Values.{outputs_of}
 use Rattle.g_arrays.specs.Acting.{placed}
 use Rattle.g_arrays.proofs.ActLemmas.{proper-placed, proper-value}
 use Rattle.g_arrays.proofs.act.act_on.Goals as goal

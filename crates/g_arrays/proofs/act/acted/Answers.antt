@@ -1,10 +1,10 @@
 use Rattle.std.proofs.Common.{◌≡◌, [], ◌∷◌, IfOk, map, false, true, ap, ap₂, sym, ◌∙◌, subst}
 use Rattle.std.specs.Prelude.{is_some}
 use Rattle.std.specs.List.{All}
-use Rattle.g_evaluation.specs.Conditions.{AreInOrder}
-use Rattle.g_evaluation.proofs.InputLemmas.{in_order}
-use Rattle.g_operations.specs.Takes.{takes}
-use Rattle.g_operations.specs.Values.{outputs_of}
+use Rattle.g_prims_evaluation.specs.Conditions.{AreInOrder}
+use Rattle.g_prims_evaluation.proofs.InputLemmas.{in_order}
+use Rattle.g_prims_definitions.specs.Takes.{takes}
+use Rattle.g_prims_definitions.specs.Values.{outputs_of}
 use Rattle.g_values.specs.Proper.{IsProper}
 use Rattle.g_values.specs.Value.{type_of}
 use Rattle.g_values.specs.declared.value.Value.TheVariants as value

@@ -1,6 +1,6 @@
 use Rattle.std.proofs.Common.{◌≡◌, [], ◌∷◌, map, subst}
 use Rattle.g_values.specs.Value.{type_of}
-use Rattle.g_evaluation.proofs.InputLemmas.{pair_of}
+use Rattle.g_prims_evaluation.proofs.InputLemmas.{pair_of}
 use Rattle.g_arrays.specs.Acting.{Acts, placed}
 use Rattle.g_arrays.proofs.ActLemmas.{three_is, few_are}
 use Rattle.g_arrays.proofs.act.reading.Goals as goal

@@ -1,7 +1,7 @@
 use Rattle.std.proofs.Common.{ap, ◌∙◌, arith, set}
 use Rattle.std.proofs.lemmas.List.Edits.{map_over_more}
-use Rattle.g_edits.specs.Words.{on_truths}
-use Rattle.g_operations.specs.Bits.{truth}
+use Rattle.g_prims_edits.specs.Words.{on_truths}
+use Rattle.g_prims_definitions.specs.Bits.{truth}
 use Rattle.g_values.specs.declared.value.Value.TheVariants as value
 use Rattle.g_arrays.proofs.bits.right_truths.Goals as goal
 

@@ -1,6 +1,6 @@
 use Rattle.std.proofs.Common.{ap, ◌∙◌, arith, set, not}
 use Rattle.std.proofs.lemmas.List.Edits.{map_over_more}
-use Rattle.g_operations.specs.Bits.{truth}
+use Rattle.g_prims_definitions.specs.Bits.{truth}
 use Rattle.g_values.specs.declared.value.Value.TheVariants as value
 use Rattle.g_arrays.proofs.bits.turn_truths.Goals as goal
 

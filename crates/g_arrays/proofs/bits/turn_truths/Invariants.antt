@@ -1,5 +1,5 @@
 use Rattle.std.proofs.Common.{◌≡◌, ◌++◌, map, take, drop}
-use Rattle.g_operations.specs.Bits.{truth}
+use Rattle.g_prims_definitions.specs.Bits.{truth}
 use Rattle.g_values.specs.declared.value.Value.TheVariants as value
 use Rattle.std.specs.Prelude.{not}
 use Rattle.g_arrays.proofs.bits.turn_truths.Given as goal

@@ -1,7 +1,7 @@
 use Rattle.std.proofs.Common.{ap, ap₂, ◌∙◌, arith, set}
 use Rattle.std.specs.Simd.Lanes.{zip2}
-use Rattle.g_edits.specs.Words.{on_truths}
-use Rattle.g_operations.specs.Bits.{truth}
+use Rattle.g_prims_edits.specs.Words.{on_truths}
+use Rattle.g_prims_definitions.specs.Bits.{truth}
 use Rattle.g_values.specs.declared.value.Value.{Value}
 use Rattle.g_values.specs.declared.value.Value.TheVariants as value
 use Rattle.g_arrays.proofs.Loops.{one_step, all_done, zip2-take}

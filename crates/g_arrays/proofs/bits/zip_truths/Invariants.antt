@@ -1,8 +1,8 @@
 use Rattle.std.proofs.Common.{◌≡◌, ◌++◌, take, drop}
 use Rattle.std.specs.Simd.Lanes.{zip2}
 use Rattle.std.proofs.Common.{length, ◌≤◌}
-use Rattle.g_operations.specs.Bits.{truth}
-use Rattle.g_edits.specs.Words.{on_truths}
+use Rattle.g_prims_definitions.specs.Bits.{truth}
+use Rattle.g_prims_edits.specs.Words.{on_truths}
 use Rattle.g_values.specs.declared.value.Value.TheVariants as value
 use Rattle.g_arrays.proofs.bits.zip_truths.Given as goal
 

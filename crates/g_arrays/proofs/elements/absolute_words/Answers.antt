@@ -1,6 +1,6 @@
 use Rattle.std.proofs.Common.{ap, ◌∙◌, arith, set}
 use Rattle.std.proofs.lemmas.List.Edits.{map_over_more}
-use Rattle.g_edits.specs.Words.{absolute_word}
+use Rattle.g_prims_edits.specs.Words.{absolute_word}
 use Rattle.g_arrays.proofs.elements.absolute_words.Goals as goal
 
 pub loop-at-preserved : goal.loop-at-preserved

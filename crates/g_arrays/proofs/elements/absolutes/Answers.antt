@@ -1,9 +1,9 @@
 use Rattle.std.proofs.Common.{ap, ◌∙◌, map}
 use Rattle.g_values.specs.Numbers.{number}
-use Rattle.g_operations.specs.Arithmetic.{absolute, mapped, numbers_of}
-use Rattle.g_edits.specs.Words.{absolute_word}
-use Rattle.g_edits.proofs.ArrayLemmas.{are_words-same}
-use Rattle.g_edits.proofs.AbsoluteLemmas.{are_words-absolute, numbers-absolute}
+use Rattle.g_prims_definitions.specs.Arithmetic.{absolute, mapped, numbers_of}
+use Rattle.g_prims_edits.specs.Words.{absolute_word}
+use Rattle.g_prims_edits.proofs.ArrayLemmas.{are_words-same}
+use Rattle.g_prims_edits.proofs.AbsoluteLemmas.{are_words-absolute, numbers-absolute}
 use Rattle.g_arrays.proofs.elements.absolutes.Goals as goal
 
 pub invariant_of-result : goal.invariant_of-result

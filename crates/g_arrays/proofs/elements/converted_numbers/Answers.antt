@@ -1,5 +1,5 @@
 use Rattle.std.proofs.Common.{◌∙◌, ap}
-use Rattle.g_operations.specs.Arithmetic.{left, plus}
+use Rattle.g_prims_definitions.specs.Arithmetic.{left, plus}
 use Rattle.g_values.specs.declared.num.Num.{Num}
 use Rattle.g_arrays.proofs.Conversions.{left-is_coerced}
 use Rattle.g_arrays.proofs.elements.converted_numbers.Goals as goal

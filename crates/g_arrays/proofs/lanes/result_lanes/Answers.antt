@@ -1,6 +1,6 @@
 use Rattle.std.proofs.Common.{ap, ◌∙◌, map, length}
 use Rattle.g_values.specs.Canonical.{canonical}
-use Rattle.g_edits.specs.Words.{on_words}
+use Rattle.g_prims_edits.specs.Words.{on_words}
 use Rattle.g_arrays.proofs.LaneLemmas.{result_of, length-zip2_same}
 use Rattle.g_arrays.proofs.lanes.result_lanes.Goals as goal
 

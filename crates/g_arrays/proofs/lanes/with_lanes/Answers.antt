@@ -1,5 +1,5 @@
 use Rattle.std.proofs.Common.{ap, ◌∙◌, sym, map}
-use Rattle.g_edits.specs.Words.{result_word}
+use Rattle.g_prims_edits.specs.Words.{result_word}
 use Rattle.g_arrays.specs.Lanes.{with_word}
 use Rattle.g_arrays.proofs.LaneLemmas.{with_same_after, with_same_before}
 use Rattle.g_arrays.proofs.lanes.with_lanes.Goals as goal

@@ -1,9 +1,9 @@
 use Rattle.std.proofs.Common.{ap, ◌∙◌, map, false}
 use Rattle.g_values.specs.Numbers.{number, word}
-use Rattle.g_operations.specs.Arithmetic.{numbers_of, left}
-use Rattle.g_edits.specs.Words.{on_numbers, result_word}
-use Rattle.g_edits.proofs.ArrayLemmas.{are_words-same}
-use Rattle.g_edits.proofs.WordLemmas.{are_words-left, numbers-left}
+use Rattle.g_prims_definitions.specs.Arithmetic.{numbers_of, left}
+use Rattle.g_prims_edits.specs.Words.{on_numbers, result_word}
+use Rattle.g_prims_edits.proofs.ArrayLemmas.{are_words-same}
+use Rattle.g_prims_edits.proofs.WordLemmas.{are_words-left, numbers-left}
 use Rattle.g_arrays.specs.Lanes.{with_word}
 use Rattle.g_arrays.proofs.numbers.left.Goals as goal
 

@@ -1,10 +1,10 @@
 use Rattle.std.proofs.Common.{ap, ◌∙◌, map}
 use Rattle.std.specs.Simd.Lanes.{zip2}
 use Rattle.g_values.specs.Numbers.{number}
-use Rattle.g_operations.specs.Arithmetic.{combined, numbers_of, zipped}
-use Rattle.g_edits.specs.Words.{on_numbers, result_word}
-use Rattle.g_edits.proofs.ArrayLemmas.{of_words, are_words-same}
-use Rattle.g_edits.proofs.WordLemmas.{are_words-zip2, numbers-zip2}
+use Rattle.g_prims_definitions.specs.Arithmetic.{combined, numbers_of, zipped}
+use Rattle.g_prims_edits.specs.Words.{on_numbers, result_word}
+use Rattle.g_prims_edits.proofs.ArrayLemmas.{of_words, are_words-same}
+use Rattle.g_prims_edits.proofs.WordLemmas.{are_words-zip2, numbers-zip2}
 use Rattle.g_arrays.proofs.numbers.zipped.Goals as goal
 
 pub invariant_of-result : goal.invariant_of-result

@@ -1,6 +1,6 @@
 use Rattle.std.proofs.Common.{◌≡◌, ◌∙◌, map, length, ap, sym, subst, arith}
 use Rattle.g_values.specs.Value.{type_of}
-use Rattle.g_operations.specs.Rows.{row_of}
+use Rattle.g_prims_definitions.specs.Rows.{row_of}
 use Rattle.g_arrays.specs.Acting.{Acts}
 use Rattle.g_arrays.proofs.TestLemmas.{acts_of}
 use Rattle.g_arrays.proofs.tests.is_same.Goals as goal

@@ -1,7 +1,7 @@
 use Rattle.std.proofs.Common.{ap, ◌∙◌, arith}
 use Rattle.std.proofs.lemmas.List.{take_at}
 use Rattle.std.specs.Simd.Lanes.{zip2}
-use Rattle.g_edits.specs.Words.{result_word}
+use Rattle.g_prims_edits.specs.Words.{result_word}
 use Rattle.g_arrays.proofs.Loops.{zip2-take}
 use Rattle.g_arrays.proofs.words.zip_into.Goals as goal
 

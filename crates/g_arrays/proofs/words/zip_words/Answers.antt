@@ -1,5 +1,5 @@
 use Rattle.std.proofs.Common.{ap, ◌∙◌, arith, set}
-use Rattle.g_edits.specs.Words.{result_word}
+use Rattle.g_prims_edits.specs.Words.{result_word}
 use Rattle.g_arrays.proofs.Loops.{block_step, one_step, all_done}
 use Rattle.g_arrays.proofs.words.zip_words.Goals as goal
 

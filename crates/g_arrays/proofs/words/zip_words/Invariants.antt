@@ -1,5 +1,5 @@
 use Rattle.std.proofs.Common.{◌≡◌, ◌≤◌, ◌-◌}
-use Rattle.g_edits.specs.Words.{result_word}
+use Rattle.g_prims_edits.specs.Words.{result_word}
 use Rattle.g_arrays.specs.Lanes.{done}
 use Rattle.g_arrays.proofs.words.zip_words.Given as goal
 

@@ -1,8 +1,8 @@
 use Rattle.std.proofs.Common.{◌<◌, ◌++◌, ℕ, length, map, take, get_or, ap, sym, ◌∙◌, arith}
 use Rattle.std.proofs.lemmas.List.{map_more}
 use Rattle.g_hier.specs.Outlines.{call_on, calls_on}
-use Rattle.g_table.specs.declared.entry.Entry.{Entry}
-use Rattle.g_table.specs.Seen.{seen, seen_kind}
+use Rattle.g_diagram_table.specs.declared.entry.Entry.{Entry}
+use Rattle.g_diagram_table.specs.Seen.{seen, seen_kind}
 use Rattle.g_hier.proofs.Names.{calls_push}
 use Rattle.g_hier.proofs.outlines.outline.Goals as goal
 

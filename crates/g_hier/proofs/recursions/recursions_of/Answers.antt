@@ -1,7 +1,7 @@
 use Rattle.std.proofs.Common.{◌+◌, ◌∙◌, List, length, All, sym, ap, subst}
 use Rattle.g_graph.specs.Graph.{Graph, is_marked, TellsCycles}
 use Rattle.g_hier.specs.declared.graph.HeldCall.{HeldCall}
-use Rattle.g_breaks.specs.Breaks.{has_break}
+use Rattle.g_rules_breaks.specs.Breaks.{has_break}
 use Rattle.g_hier.specs.CallGraph.{EndsBelow, edges, breaks_from}
 use Rattle.g_hier.proofs.HeldCalls.{ends_known, lists_recursions}
 use Rattle.g_hier.proofs.recursions.recursions_of.Goals as goal

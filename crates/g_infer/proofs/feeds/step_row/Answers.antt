@@ -6,8 +6,8 @@ use Rattle.g_infer.specs.declared.giving.Given as given
 use Rattle.g_infer.specs.Feeding.{is_reader, leads_to}
 use Rattle.g_infer.specs.Gives.{form_gives}
 use Rattle.g_infer.specs.Given.{seen_given}
-use Rattle.g_type_breaks.specs.Known.{types_of}
-use Rattle.g_type_breaks.specs.Panels.{callees_in, objects_in}
+use Rattle.g_rules_types.specs.Known.{types_of}
+use Rattle.g_rules_types.specs.Panels.{callees_in, objects_in}
 use Rattle.g_infer.specs.Steps.{seen_step}
 use Rattle.g_infer.proofs.GivenNames.{form_test}
 use Rattle.g_infer.proofs.feeds.step_row.Goals as goal

@@ -6,7 +6,7 @@ use Rattle.g_diagram.specs.Lines.{Wire}
 use Rattle.g_typing.specs.Typing.{given, given_each}
 use Rattle.g_infer.specs.Given.{seen_given}
 use Rattle.g_infer.proofs.Outputs.{each_step}
-use Rattle.g_type_breaks.proofs.Loops.{one_more}
+use Rattle.g_rules_types.proofs.Loops.{one_more}
 use Rattle.g_infer.proofs.giving.push_each.Goals as goal
 
 pub loop-k-preserved : goal.loop-k-preserved

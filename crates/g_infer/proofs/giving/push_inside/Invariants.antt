@@ -1,7 +1,7 @@
 use Rattle.std.proofs.Common.{◌≡◌, ◌++◌, drop, map}
 use Rattle.g_typing.specs.Typing.{lines_inside}
 use Rattle.g_infer.specs.Given.{seen_given}
-use Rattle.g_type_breaks.specs.Known.{types_of}
+use Rattle.g_rules_types.specs.Known.{types_of}
 use Rattle.g_infer.proofs.giving.push_inside.Given as goal
 
 abbrev pub invariant-loop-tunnel : goal.invariant-loop-tunnel

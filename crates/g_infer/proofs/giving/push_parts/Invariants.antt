@@ -1,8 +1,8 @@
 use Rattle.std.specs.Prelude.{None}
 use Rattle.std.proofs.Common.{◌≡◌, ◌++◌, drop, map}
-use Rattle.g_table.specs.Seen.{seen_part}
+use Rattle.g_diagram_table.specs.Seen.{seen_part}
 use Rattle.g_infer.specs.Given.{seen_given}
-use Rattle.g_type_breaks.specs.Known.{types_of}
+use Rattle.g_rules_types.specs.Known.{types_of}
 use Rattle.g_typing.specs.Typing.{parts_given}
 use Rattle.g_infer.proofs.giving.push_parts.Given as goal
 

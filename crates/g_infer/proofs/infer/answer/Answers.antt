@@ -1,7 +1,7 @@
 use Rattle.std.proofs.Common.{◌<◌, List, length, ap, ◌∙◌, sym, subst, arith}
 use Rattle.g_diagram.specs.declared.place.Break.{Break}
 use Rattle.g_typing.specs.Breaks.{TypeBreak}
-use Rattle.g_breaks.specs.Breaks.{ListsEach, has_break}
+use Rattle.g_rules_breaks.specs.Breaks.{ListsEach, has_break}
 use Rattle.g_infer.proofs.InferLemmas.{AllInferred, all_inferred, all_typable, lists_each, is_typed}
 use Rattle.g_infer.proofs.infer.answer.Goals as goal
 

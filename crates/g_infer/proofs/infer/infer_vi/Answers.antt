@@ -1,8 +1,8 @@
 use Rattle.std.proofs.Common.{◌≡◌, List, map, ap, ◌∙◌}
 use Rattle.g_diagram.specs.Lines.{Entry, entries_of}
-use Rattle.g_table.specs.Seen.{seen}
+use Rattle.g_diagram_table.specs.Seen.{seen}
 use Rattle.g_infer.specs.Answer.{types_in}
-use Rattle.g_type_breaks.specs.Panels.{callees_in, objects_in}
+use Rattle.g_rules_types.specs.Panels.{callees_in, objects_in}
 use Rattle.g_infer.proofs.InferLemmas.{objects_same, typable_at, typing_at, breaks_at}
 use Rattle.g_infer.proofs.infer.infer_vi.Goals as goal
 

@@ -2,7 +2,7 @@ use Rattle.std.proofs.Common.{◌≡◌, ℕ, ◌+◌, length, ap, ◌∙◌, re
 use Rattle.std.proofs.lemmas.Option.{slice_get_read}
 use Rattle.g_typing.specs.Typing.{called_panel}
 use Rattle.g_infer.specs.Inferred.{Inferred}
-use Rattle.g_type_breaks.specs.Panels.{callees_in, or_nothing}
+use Rattle.g_rules_types.specs.Panels.{callees_in, or_nothing}
 use Rattle.g_infer.proofs.InferLemmas.{callees_same, inferred_none, inferred_next, typable_by}
 use Rattle.g_infer.proofs.infer.infer_vis.Goals as goal
 

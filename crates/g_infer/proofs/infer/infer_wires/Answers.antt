@@ -1,7 +1,7 @@
 use Rattle.std.proofs.Common.{map}
-use Rattle.g_table.specs.Seen.{seen}
-use Rattle.g_type_breaks.specs.Known.{types_of}
-use Rattle.g_type_breaks.specs.Panels.{callees_in, objects_in}
+use Rattle.g_diagram_table.specs.Seen.{seen}
+use Rattle.g_rules_types.specs.Known.{types_of}
+use Rattle.g_rules_types.specs.Panels.{callees_in, objects_in}
 use Rattle.g_infer.proofs.InferLemmas.{typing_told, breaks_told}
 use Rattle.g_infer.proofs.infer.infer_wires.Goals as goal
 

@@ -1,5 +1,5 @@
 use Rattle.std.proofs.Common.{◌≡◌, ◌++◌, drop, map}
-use Rattle.g_table.specs.Seen.{seen_arm}
+use Rattle.g_diagram_table.specs.Seen.{seen_arm}
 use Rattle.g_typing.proofs.Local.{result_reads}
 use Rattle.g_infer.specs.Reads.{all_named, seen_read}
 use Rattle.g_infer.proofs.reads.push_gives.Given as goal

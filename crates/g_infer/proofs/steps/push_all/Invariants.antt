@@ -1,5 +1,5 @@
 use Rattle.std.proofs.Common.{◌≡◌, ◌++◌, drop, map}
-use Rattle.g_table.specs.Seen.{seen}
+use Rattle.g_diagram_table.specs.Seen.{seen}
 use Rattle.g_infer.specs.Steps.{seen_step, entries_forms}
 use Rattle.g_infer.proofs.steps.push_all.Given as goal
 

@@ -1,6 +1,6 @@
 use Rattle.std.specs.Prelude.{None}
 use Rattle.std.proofs.Common.{◌≡◌, ◌++◌, drop, map}
-use Rattle.g_table.specs.Seen.{seen_part}
+use Rattle.g_diagram_table.specs.Seen.{seen_part}
 use Rattle.g_infer.specs.Steps.{seen_step, parts_forms}
 use Rattle.g_infer.proofs.steps.push_parts.Given as goal
 

@@ -1,7 +1,7 @@
 use Rattle.std.proofs.Common.{ap, sym, ◌∙◌}
 use Rattle.g_wires.proofs.NumberLemmas.{is_key, key_is}
 use Rattle.g_infer.specs.Given.{seen_given}
-use Rattle.g_type_breaks.specs.Known.{types_of}
+use Rattle.g_rules_types.specs.Known.{types_of}
 use Rattle.g_infer.specs.Walking.{is_to, put}
 use Rattle.g_infer.proofs.WalkLemmas.{inserted}
 use Rattle.g_infer.proofs.walk.keep.Goals as goal

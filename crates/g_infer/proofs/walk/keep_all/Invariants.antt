@@ -1,7 +1,7 @@
 use Rattle.std.proofs.Common.{◌≡◌, ℕ, List, length, map}
 use Rattle.std.specs.Vec.Iter.{into_iter_items, into_iter_len}
 use Rattle.g_infer.specs.Given.{seen_given}
-use Rattle.g_type_breaks.specs.Known.{types_of}
+use Rattle.g_rules_types.specs.Known.{types_of}
 use Rattle.g_infer.specs.Walking.{known_after}
 use Rattle.g_infer.proofs.walk.keep_all.Given as goal
 

@@ -1,9 +1,9 @@
 use Rattle.std.proofs.Common.{length, map}
 use Rattle.std.proofs.lemmas.Result.{IfOk-weaker}
-use Rattle.g_table.specs.Seen.{seen}
+use Rattle.g_diagram_table.specs.Seen.{seen}
 use Rattle.g_typing.proofs.Agreed.{Typed}
-use Rattle.g_type_breaks.specs.Known.{types_of}
-use Rattle.g_type_breaks.specs.Panels.{callees_in, objects_in}
+use Rattle.g_rules_types.specs.Known.{types_of}
+use Rattle.g_rules_types.specs.Panels.{callees_in, objects_in}
 use Rattle.g_infer.specs.Steps.{seen_step}
 use Rattle.g_infer.specs.Walking.{HasWalked, steps_of}
 use Rattle.g_infer.proofs.WalkLemmas.{order_found, can_start, at_end}

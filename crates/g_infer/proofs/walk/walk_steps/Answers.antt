@@ -1,6 +1,6 @@
 use Rattle.std.proofs.lemmas.Option.{slice_get-get_or}
-use Rattle.g_type_breaks.specs.Known.{types_of}
-use Rattle.g_type_breaks.specs.Panels.{callees_in, objects_in}
+use Rattle.g_rules_types.specs.Known.{types_of}
+use Rattle.g_rules_types.specs.Panels.{callees_in, objects_in}
 use Rattle.g_infer.proofs.WalkLemmas.{index_within, walk_next}
 use Rattle.g_infer.proofs.walk.walk_steps.Goals as goal
 

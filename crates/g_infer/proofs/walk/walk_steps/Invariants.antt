@@ -1,6 +1,6 @@
 use Rattle.std.proofs.Common.{map}
-use Rattle.g_type_breaks.specs.Known.{types_of}
-use Rattle.g_type_breaks.specs.Panels.{callees_in, objects_in}
+use Rattle.g_rules_types.specs.Known.{types_of}
+use Rattle.g_rules_types.specs.Panels.{callees_in, objects_in}
 use Rattle.g_infer.specs.Steps.{seen_step}
 use Rattle.g_infer.specs.Walking.{HasWalked, steps_of}
 use Rattle.g_infer.proofs.walk.walk_steps.Given as goal

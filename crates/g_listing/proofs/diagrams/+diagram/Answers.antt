@@ -2,9 +2,9 @@ use Rattle.std.proofs.Common.{ℕ, length, subst, ap, ◌∙◌}
 use Rattle.g_grammar.specs.Grammar.{read, loop, or_else}
 use Rattle.g_grammar.specs.Reads.{Gives}
 use Rattle.g_grammar.proofs.Loops.{ended_more, ended_last, ended_stops, ended_out}
-use Rattle.g_syntax.specs.Words.{eol, word_in}
-use Rattle.g_syntax.specs.Nodes.{results, selector_first, ends_of, nodes, node_first, node_rest, node_or_end, branch_rest, frame_rest}
-use Rattle.g_syntax.specs.declared.Border.TheVariants as border
+use Rattle.g_listing_grammar.specs.Words.{eol, word_in}
+use Rattle.g_listing_grammar.specs.Nodes.{results, selector_first, ends_of, nodes, node_first, node_rest, node_or_end, branch_rest, frame_rest}
+use Rattle.g_listing_grammar.specs.declared.Border.TheVariants as border
 use Rattle.g_listing.proofs.diagrams.+diagram.Goals as goal
 
 pub nodes-returns-in-Err : goal.nodes-returns-in-Err

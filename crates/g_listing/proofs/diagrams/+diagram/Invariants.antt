@@ -1,9 +1,9 @@
 use Rattle.std.proofs.Common.{◌≡◌, ◌+◌, ◌-◌, ◌*◌, length}
 use Rattle.g_grammar.specs.Grammar.{read, repeat, loop, or_else}
 use Rattle.g_grammar.specs.Reads.{ended}
-use Rattle.g_syntax.specs.Words.{eol, word_in}
-use Rattle.g_syntax.specs.Nodes.{selector_first, ends_of, nodes, node_first, node_rest, node_or_end, branch_rest, frame_rest}
-use Rattle.g_syntax.specs.declared.Border.TheVariants as border
+use Rattle.g_listing_grammar.specs.Words.{eol, word_in}
+use Rattle.g_listing_grammar.specs.Nodes.{selector_first, ends_of, nodes, node_first, node_rest, node_or_end, branch_rest, frame_rest}
+use Rattle.g_listing_grammar.specs.declared.Border.TheVariants as border
 use Rattle.g_listing.proofs.diagrams.+diagram.Given as goal
 
 abbrev pub decreases-node_rest : goal.decreases-node_rest

@@ -2,7 +2,7 @@ use Rattle.std.proofs.Common.{◌≡◌, ℕ, List, subst, rules}
 use Rattle.std.specs.Prelude.{codes}
 use Rattle.g_grammar.specs.Grammar.{read}
 use Rattle.g_grammar.specs.Reads.{Gives}
-use Rattle.g_syntax.specs.Borders.{lines_to}
+use Rattle.g_listing_grammar.specs.Borders.{lines_to}
 use Rattle.g_listing.proofs.diagrams.lines_to_do.Goals as goal
 
 pub returns : goal.returns

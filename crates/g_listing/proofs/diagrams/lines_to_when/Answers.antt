@@ -2,8 +2,8 @@ use Rattle.std.proofs.Common.{◌≡◌, ℕ, List, subst, rules}
 use Rattle.std.specs.Prelude.{codes}
 use Rattle.g_grammar.specs.Grammar.{read}
 use Rattle.g_grammar.specs.Reads.{Gives}
-use Rattle.g_syntax.specs.declared.Border.TheVariants as border
-use Rattle.g_syntax.specs.Borders.{lines_to}
+use Rattle.g_listing_grammar.specs.declared.Border.TheVariants as border
+use Rattle.g_listing_grammar.specs.Borders.{lines_to}
 use Rattle.g_listing.proofs.diagrams.lines_to_when.Goals as goal
 
 pub returns : goal.returns

@@ -1,5 +1,5 @@
 use Rattle.g_grammar.specs.Grammar.{take}
-use Rattle.g_syntax.specs.Words.{wire}
+use Rattle.g_listing_grammar.specs.Words.{wire}
 use Rattle.g_listing.proofs.Gives.{at_start, one_more, stops_here, all_there}
 use Rattle.g_listing.proofs.diagrams.more_wires.Goals as goal
 

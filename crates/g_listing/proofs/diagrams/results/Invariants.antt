@@ -1,5 +1,5 @@
 use Rattle.std.proofs.Common.{◌≡◌, ◌≤◌, ◌+◌, drop}
-use Rattle.g_syntax.specs.Nodes.{results}
+use Rattle.g_listing_grammar.specs.Nodes.{results}
 use Rattle.g_listing.proofs.diagrams.results.Given as goal
 
 abbrev pub invariant-loop-line : goal.invariant-loop-line

@@ -1,7 +1,7 @@
 use Rattle.std.proofs.Common.{sym, ◌∙◌, subst}
 use Rattle.g_grammar.specs.Grammar.{read}
 use Rattle.g_grammar.specs.Reads.{Stops}
-use Rattle.g_syntax.specs.Listing.{listing}
+use Rattle.g_listing_grammar.specs.Listing.{listing}
 use Rattle.g_listing.proofs.Refusals.{found, only, refused_after, refused_in, few_left, some_left, few_after, empty_of, some_of}
 use Rattle.g_listing.proofs.listing.read_listing.Goals as goal
 

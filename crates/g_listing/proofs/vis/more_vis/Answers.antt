@@ -1,7 +1,7 @@
 use Rattle.std.proofs.Common.{length}
 use Rattle.g_grammar.specs.Grammar.{or_else}
 use Rattle.g_grammar.proofs.Loops.{ended_more, ended_last, ended_stops, ended_out}
-use Rattle.g_syntax.specs.Listing.{vi_word, at_end, vi_or_end}
+use Rattle.g_listing_grammar.specs.Listing.{vi_word, at_end, vi_or_end}
 use Rattle.g_listing.proofs.vis.more_vis.Goals as goal
 
 pub returns-in-Err : goal.returns-in-Err

@@ -1,7 +1,7 @@
 use Rattle.std.proofs.Common.{◌≡◌, ◌-◌, length}
 use Rattle.g_grammar.specs.Grammar.{read, repeat, loop, or_else}
 use Rattle.g_grammar.specs.Reads.{ended}
-use Rattle.g_syntax.specs.Listing.{vi_word, at_end, vi_or_end}
+use Rattle.g_listing_grammar.specs.Listing.{vi_word, at_end, vi_or_end}
 use Rattle.g_listing.proofs.vis.more_vis.Given as goal
 
 abbrev pub invariant-loop : goal.invariant-loop

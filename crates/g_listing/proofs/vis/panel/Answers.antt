@@ -1,6 +1,6 @@
 use Rattle.std.proofs.Common.{length}
 use Rattle.g_grammar.proofs.Loops.{ended_more, ended_last, ended_stops, ended_out}
-use Rattle.g_syntax.specs.Listing.{body_first, body_item}
+use Rattle.g_listing_grammar.specs.Listing.{body_first, body_item}
 use Rattle.g_listing.proofs.vis.panel.Goals as goal
 
 pub returns-in-Err : goal.returns-in-Err

@@ -1,7 +1,7 @@
 use Rattle.std.proofs.Common.{◌≡◌, ◌-◌, length}
 use Rattle.g_grammar.specs.Grammar.{read, repeat, loop}
 use Rattle.g_grammar.specs.Reads.{ended}
-use Rattle.g_syntax.specs.Listing.{body_first, body_item}
+use Rattle.g_listing_grammar.specs.Listing.{body_first, body_item}
 use Rattle.g_listing.proofs.vis.panel.Given as goal
 
 abbrev pub invariant-loop : goal.invariant-loop

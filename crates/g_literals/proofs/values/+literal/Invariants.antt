@@ -1,6 +1,6 @@
 use Rattle.std.proofs.Common.{◌≡◌, ◌++◌, drop, map}
 use Rattle.g_types.specs.Rep.{wrap}
-use Rattle.g_operations.specs.Arrays.{number_of}
+use Rattle.g_prims_definitions.specs.Arrays.{number_of}
 use Rattle.g_literals.specs.Values as spec
 use Rattle.g_literals.proofs.values.+literal.Given as goal
 

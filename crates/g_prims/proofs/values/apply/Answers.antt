@@ -1,7 +1,7 @@
 use Rattle.std.proofs.Common.{subst, sym}
 use Rattle.std.specs.List.{All}
-use Rattle.g_evaluation.proofs.ProperOutputs.{proper-outputs}
-use Rattle.g_operations.specs.Conditions.{HasRow}
+use Rattle.g_prims_evaluation.proofs.ProperOutputs.{proper-outputs}
+use Rattle.g_prims_definitions.specs.Conditions.{HasRow}
 use Rattle.g_values.specs.Proper.{IsProper}
 use Rattle.g_prims.proofs.values.apply.Goals as goal
 

@@ -1,10 +1,10 @@
 use Rattle.std.proofs.Common.{List, map, ap, ◌∙◌}
 use Rattle.g_diagram.specs.declared.hierarchy.Vi.{Vi}
 use Rattle.g_diagram.specs.Ports.{Port}
-use Rattle.g_ports.specs.Callees.{freedom_by}
-use Rattle.g_table.specs.Seen as table
+use Rattle.g_diagram_ports.specs.Callees.{freedom_by}
+use Rattle.g_diagram_table.specs.Seen as table
 use Rattle.g_wires.specs.Checked.{ports_with, IsCoding}
-use Rattle.g_line_breaks.specs.Names.{known_by}
+use Rattle.g_rules_lines.specs.Names.{known_by}
 use Rattle.g_wires.proofs.Cycling.{cycles_added}
 use Rattle.g_wires.proofs.Codings.{plain_added, lines_of_slices}
 use Rattle.g_wires.proofs.check.check_vi.Goals as goal

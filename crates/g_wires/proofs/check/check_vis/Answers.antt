@@ -3,9 +3,9 @@ use Rattle.std.proofs.lemmas.Option.{slice_get_read}
 use Rattle.g_diagram.specs.declared.hierarchy.Vi.{Vi}
 use Rattle.g_diagram.specs.declared.place.Break.{Break}
 use Rattle.g_diagram.specs.Ports.{Port}
-use Rattle.g_ports.specs.Callees.{freedom_by}
+use Rattle.g_diagram_ports.specs.Callees.{freedom_by}
 use Rattle.g_wires.specs.Breaks.{plain_in, each_from}
-use Rattle.g_line_breaks.specs.Names.{known_by}
+use Rattle.g_rules_lines.specs.Names.{known_by}
 use Rattle.g_wires.specs.Checked.{ports_with, AddsCycles, CyclesBelow}
 use Rattle.g_wires.proofs.Cycling.{cycles_more, no_cycles, each_more, each_all}
 use Rattle.g_wires.proofs.check.check_vis.Goals as goal

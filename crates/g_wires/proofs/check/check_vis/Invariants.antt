@@ -1,7 +1,7 @@
 use Rattle.std.proofs.Common.{◌≡◌, ◌++◌, drop}
-use Rattle.g_ports.specs.Callees.{freedom_by}
+use Rattle.g_diagram_ports.specs.Callees.{freedom_by}
 use Rattle.g_wires.specs.Breaks.{plain_in, each_from}
-use Rattle.g_line_breaks.specs.Names.{known_by}
+use Rattle.g_rules_lines.specs.Names.{known_by}
 use Rattle.g_wires.specs.Checked.{ports_with, CyclesBelow}
 use Rattle.g_wires.proofs.check.check_vis.Given as goal
 

@@ -3,8 +3,8 @@ use Rattle.std.specs.Prelude.{All}
 use Rattle.g_diagram.specs.Lines as lines
 use Rattle.g_diagram.specs.Operands.{control_lines, entries_lines}
 use Rattle.g_diagram.specs.Ports.{ports_in}
-use Rattle.g_ports.specs.declared.port.Port.{Port}
-use Rattle.g_ports.specs.Callees.{freedom_by}
+use Rattle.g_diagram_ports.specs.declared.port.Port.{Port}
+use Rattle.g_diagram_ports.specs.Callees.{freedom_by}
 use Rattle.g_wires.specs.Coding.{code_by, has_wire_of}
 use Rattle.g_wires.specs.Checked.{ports_with}
 use Rattle.g_wires.proofs.Codings.{is_coding}

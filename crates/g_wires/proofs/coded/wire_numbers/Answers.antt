@@ -1,7 +1,7 @@
 use Rattle.std.proofs.Common.{subst, arith}
 use Rattle.std.proofs.lemmas.List.Elements.{All-more, All-weaker}
 use Rattle.std.proofs.Common.{take}
-use Rattle.g_ports.specs.declared.port.Port.{Port}
+use Rattle.g_diagram_ports.specs.declared.port.Port.{Port}
 use Rattle.g_wires.specs.Coding.{has_wire_of}
 use Rattle.g_wires.proofs.EdgeLemmas.{all_taken}
 use Rattle.g_wires.proofs.coded.wire_numbers.Goals as goal

@@ -1,10 +1,10 @@
 use Rattle.std.proofs.Common.{◌≡◌, ℕ, ◌≤◌, List, None, length, ap, subst, ◌∙◌}
 use Rattle.std.proofs.lemmas.Result.{IfOk-weaker}
 use Rattle.g_diagram.specs.declared.place.Break.{Break}
-use Rattle.g_check.specs.Checked.{IsChecked}
+use Rattle.g_rules.specs.Checked.{IsChecked}
 use Rattle.g_line.specs.declared.forms.Line.TheVariants.{Check}
 use Rattle.g_line.specs.Forms.{HasLine}
-use Rattle.g_syntax.specs.Listing.{IsListing}
+use Rattle.g_listing_grammar.specs.Listing.{IsListing}
 use Rattle.grun.specs.declared.answer.Answer.{Answer}
 use Rattle.grun.specs.Texts.{breaks_text}
 use Rattle.grun.specs.Answer.{reply, IsAnswer, LIMIT, checked_broken, checked_ok}

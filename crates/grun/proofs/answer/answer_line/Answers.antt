@@ -4,7 +4,7 @@ use Rattle.g_line.specs.declared.forms.Setting.{Setting}
 use Rattle.g_line.specs.declared.forms.Line.TheVariants.{Check}
 use Rattle.g_line.specs.Forms.{HasLine}
 use Rattle.g_listing.specs.Refusal.{IsRefusal}
-use Rattle.g_syntax.specs.Listing.{IsListing}
+use Rattle.g_listing_grammar.specs.Listing.{IsListing}
 use Rattle.grun.specs.declared.answer.Answer.{Answer}
 use Rattle.grun.specs.Answer.{reply, IsRunAnswer, IsAnswer, LIMIT, syntax, printed, runs}
 use Rattle.grun.proofs.answer.answer_line.Goals as goal

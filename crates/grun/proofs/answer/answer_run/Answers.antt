@@ -1,8 +1,8 @@
 use Rattle.std.proofs.Common.{◌≡◌, List, None, codes, ap, sym, subst, ◌∙◌, true≢false}
 use Rattle.std.proofs.lemmas.Result.{IfOk-weaker}
 use Rattle.g_diagram.specs.declared.place.Break.{Break}
-use Rattle.g_check.specs.Checked.{IsChecked}
-use Rattle.g_plain.specs.Plain.{IsPlain}
+use Rattle.g_rules.specs.Checked.{IsChecked}
+use Rattle.g_fire_form.specs.Plain.{IsPlain}
 use Rattle.grun.specs.declared.answer.Answer.{Answer}
 use Rattle.grun.specs.Texts.{line_of, breaks_text}
 use Rattle.grun.specs.Answer.{reply, IsRunAnswer, broken, other_form}

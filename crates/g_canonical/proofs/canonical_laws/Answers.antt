@@ -1,5 +1,0 @@
-use Rattle.g_canonical.proofs.ListingParts.{reads_back, alone, differ}
-use Rattle.g_canonical.proofs.canonical_laws.Goals as goal
-
-pub returns : goal.returns
-returns c = record { reads_back = reads_back; alone = alone; differ = differ }

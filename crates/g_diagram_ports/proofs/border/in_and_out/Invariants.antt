@@ -1,0 +1,7 @@
+use Rattle.std.proofs.Common.{◌≡◌, map, take}
+use Rattle.g_diagram.specs.Operands.{consumer, Outside}
+use Rattle.g_diagram_ports.specs.Seen.{seen_operand}
+use Rattle.g_diagram_ports.proofs.border.in_and_out.Given as goal
+
+abbrev pub invariant-loop-wire : goal.invariant-loop-wire
+invariant-loop-wire l = map seen_operand l.operands.items ≡ map (consumer Outside) (take l.wire-index l.inputs)

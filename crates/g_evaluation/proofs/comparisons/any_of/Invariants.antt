@@ -1,7 +1,0 @@
-use Rattle.std.proofs.Common.{◌≡◌, take, false}
-use Rattle.std.specs.List.{list_any}
-use Rattle.g_operations.specs.Bits.{truth}
-use Rattle.g_evaluation.proofs.comparisons.any_of.Given as goal
-
-abbrev pub invariant-loop-i : goal.invariant-loop-i
-invariant-loop-i l = list_any truth (take l.i l.items) ≡ false

@@ -1,8 +1,0 @@
-use Rattle.std.proofs.Common.{◌≡◌, ℕ, map, drop}
-use Rattle.g_table.specs.Seen as table
-use Rattle.g_line_breaks.specs.Lines as spec
-use Rattle.g_line_breaks.specs.Names.{has_diagram}
-use Rattle.g_line_breaks.proofs.diagrams.insides.Given as goal
-
-abbrev pub invariant-loop-entry : goal.invariant-loop-entry
-invariant-loop-entry l = (d : ℕ) → spec.insides (has_diagram l.diagrams) (map table.seen (drop l.entry-index l.entries)) d ≡ spec.insides spec.no_diagrams (map table.seen l.entries) d

@@ -1,5 +1,0 @@
-use Rattle.g_line_breaks.proofs.QueueLemmas.{type_test}
-use Rattle.g_line_breaks.proofs.queues.is_same.Goals as goal
-
-pub returns : goal.returns
-returns c = type_test c.same.result c.args.a.now c.args.b.now c.same.ensures.0 c.same.ensures.1

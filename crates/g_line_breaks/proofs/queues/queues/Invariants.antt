@@ -1,8 +1,0 @@
-use Rattle.std.proofs.Common.{◌≡◌, ℕ, List, drop}
-use Rattle.std.specs.Option.{option_or}
-use Rattle.g_line_breaks.specs.Lines.{first_queue, all_queues}
-use Rattle.g_line_breaks.specs.Names.{queue_at}
-use Rattle.g_line_breaks.proofs.queues.queues.Given as goal
-
-abbrev pub invariant-loop-vi : goal.invariant-loop-vi
-invariant-loop-vi l = (n : List ℕ) → option_or (queue_at l.known n) (first_queue (all_queues (drop l.vi-index l.vis)) n) ≡ first_queue (all_queues l.vis) n

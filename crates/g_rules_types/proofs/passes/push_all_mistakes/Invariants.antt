@@ -1,0 +1,8 @@
+use Rattle.std.proofs.Common.{◌≡◌, ◌++◌, drop, map}
+use Rattle.g_diagram_table.specs.Seen.{seen}
+use Rattle.g_typing.specs.Literals.{nodes_mistake}
+use Rattle.g_rules_types.specs.Known.{types_of}
+use Rattle.g_rules_types.proofs.passes.push_all_mistakes.Given as goal
+
+abbrev pub invariant-loop-entry : goal.invariant-loop-entry
+invariant-loop-entry l = l.places.items ++ nodes_mistake (types_of l.types) l.vi (map seen (drop l.entry-index l.entries)) ≡ l.fn.places.items ++ nodes_mistake (types_of l.types) l.vi (map seen l.entries)

@@ -1,9 +1,0 @@
-use Rattle.std.proofs.Common.{◌≡◌, ◌++◌, drop}
-use Rattle.g_typing.specs.Assigned.{lines_unlike}
-use Rattle.g_type_breaks.specs.Known.{types_of}
-use Rattle.g_type_breaks.proofs.assigned.push_new_values.Given as goal
-
-abbrev pub invariant-loop-tunnel : goal.invariant-loop-tunnel
-invariant-loop-tunnel l =
-    l.places.items ++ lines_unlike (types_of l.types) l.vi l.outside l.inside l.line (drop l.tunnel-index l.tunnels)
-    ≡ l.fn.places.items ++ lines_unlike (types_of l.types) l.vi l.outside l.inside l.first l.tunnels

@@ -1,8 +1,0 @@
-use Rattle.std.proofs.Common.{◌≡◌, ◌++◌, drop, map}
-use Rattle.g_table.specs.Seen.{seen}
-use Rattle.g_typing.specs.Literals.{nodes_mistake}
-use Rattle.g_type_breaks.specs.Known.{types_of}
-use Rattle.g_type_breaks.proofs.passes.push_all_mistakes.Given as goal
-
-abbrev pub invariant-loop-entry : goal.invariant-loop-entry
-invariant-loop-entry l = l.places.items ++ nodes_mistake (types_of l.types) l.vi (map seen (drop l.entry-index l.entries)) ≡ l.fn.places.items ++ nodes_mistake (types_of l.types) l.vi (map seen l.entries)

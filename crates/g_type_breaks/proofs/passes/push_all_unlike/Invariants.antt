@@ -1,9 +1,0 @@
-use Rattle.std.proofs.Common.{◌≡◌, ◌++◌, drop, map}
-use Rattle.g_table.specs.Seen.{seen}
-use Rattle.g_typing.specs.Assigned.{unassignable}
-use Rattle.g_type_breaks.specs.Known.{types_of}
-use Rattle.g_type_breaks.specs.Panels.{callees_in, objects_in}
-use Rattle.g_type_breaks.proofs.passes.push_all_unlike.Given as goal
-
-abbrev pub invariant-loop-entry : goal.invariant-loop-entry
-invariant-loop-entry l = l.places.items ++ unassignable (callees_in l.panels) (objects_in l.objects) (types_of l.types) l.vi (map seen (drop l.entry-index l.entries)) ≡ l.fn.places.items ++ unassignable (callees_in l.panels) (objects_in l.objects) (types_of l.types) l.vi (map seen l.entries)
