@@ -1,9 +1,9 @@
 -- The lines of a node, by its variants.
-use Rattle.std.proofs.Common.{◌≡◌, ℕ, ℤ, ◌+◌, List, ◌∷◌, map, length, ap, sym, ◌∙◌}
+use Rattle.std.proofs.Common.{Some, None, ◌≡◌, ℕ, ℤ, ◌+◌, List, ◌∷◌, map, length, ap, sym, ◌∙◌}
 use Rattle.g_types.specs.declared.ty.Ty.{Ty}
 use Rattle.g_values.specs.declared.primitive.Primitive.{Primitive}
 use Rattle.g_diagram.specs.declared.panel.Lit.{Lit}
-use Rattle.g_diagram.specs.declared.node.SharedOp.{SharedOp}
+use Rattle.g_operations.specs.declared.shared.SharedOp.{SharedOp}
 use Rattle.g_diagram.specs.declared.node.Tunnel.{Tunnel}
 use Rattle.g_diagram.specs.declared.node.Branch.{Branch}
 use Rattle.g_diagram.specs.declared.node.Diagram.{Diagram}
@@ -11,7 +11,7 @@ use Rattle.g_diagram.specs.declared.node.SequenceFrame.{SequenceFrame}
 use Rattle.g_diagram.specs.declared.node.Node.TheVariants as node
 use Rattle.g_diagram.specs.declared.node.Node.TheOpen.{Node-F}
 use Rattle.g_diagram.specs.declared.node.Node.TheFolds.{fold-Diagram, fold-Branch, fold-SequenceFrame, fold-roll-Node, fold_out-Diagram, fold_out-Branch, fold_out-SequenceFrame}
-use Rattle.g_diagram.specs.Lines.{Wire, Lines, BranchLines, FrameLines, lines_of, node_step, branch_step, diagram_step, frame_step, one_line, loop_lines, in_order, branches_count, branches_entries, arms, frames_count, frames_entries, parts, entry, Const, Apply, Shared, Obtain, Read, Write, Call, For, While, Case, Sequence, InPlace}
+use Rattle.g_diagram.specs.Lines.{Wire, Lines, BranchLines, FrameLines, lines_of, node_step, branch_step, diagram_step, frame_step, one_line, loop_lines, in_order, branches_count, branches_entries, arms, frames_count, frames_entries, parts, entry, Const, Apply, Shared, Obtain, Read, Write, Call, Loop, Case, Sequence, InPlace}
 
 -- the lines of a diagram, of a branch and of a frame
 abbrev pub diagram_lines : Diagram → Lines
@@ -74,11 +74,11 @@ pub lines-Call : (vi : List ℕ) (inputs outputs : List Wire) → lines_of (node
 lines-Call vi inputs outputs =
     ap lines_of (sym (node.rolls-Call vi inputs outputs)) ∙ fold-roll-Node Lines BranchLines Lines FrameLines node_step branch_step diagram_step frame_step (Node-F.Call vi inputs outputs)
 
-pub lines-For : (count iteration : Wire) (lines : List Tunnel) (body : Diagram) → lines_of (node.For count iteration lines body) ≡ loop_lines lines (diagram_lines body) (λ first finish. For count iteration lines first)
+pub lines-For : (count iteration : Wire) (lines : List Tunnel) (body : Diagram) → lines_of (node.For count iteration lines body) ≡ loop_lines lines (diagram_lines body) (λ first finish. Loop (Some count) None iteration lines first)
 lines-For count iteration lines body =
     ap lines_of (sym (node.rolls-For count iteration lines body)) ∙ fold-roll-Node Lines BranchLines Lines FrameLines node_step branch_step diagram_step frame_step (Node-F.For count iteration lines body)
 
-pub lines-While : (stop iteration : Wire) (lines : List Tunnel) (body : Diagram) → lines_of (node.While stop iteration lines body) ≡ loop_lines lines (diagram_lines body) (λ first finish. While stop iteration lines first)
+pub lines-While : (stop iteration : Wire) (lines : List Tunnel) (body : Diagram) → lines_of (node.While stop iteration lines body) ≡ loop_lines lines (diagram_lines body) (λ first finish. Loop None (Some stop) iteration lines first)
 lines-While stop iteration lines body =
     ap lines_of (sym (node.rolls-While stop iteration lines body)) ∙ fold-roll-Node Lines BranchLines Lines FrameLines node_step branch_step diagram_step frame_step (Node-F.While stop iteration lines body)
 

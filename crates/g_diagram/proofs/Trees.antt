@@ -1,6 +1,6 @@
 -- Diagrams as trees on which the table of lines computes, for worked examples. What is computed of a tree holds of the diagram that it
 -- stands for.
-use Rattle.std.proofs.Common.{◌≡◌, ℕ, ℤ, ◌+◌, List, [], ◌∷◌, ◌++◌, map, length, refl, ap, ◌∙◌}
+use Rattle.std.proofs.Common.{Some, None, ◌≡◌, ℕ, ℤ, ◌+◌, List, [], ◌∷◌, ◌++◌, map, length, refl, ap, ◌∙◌}
 use Rattle.g_types.specs.declared.ty.Ty.{Ty}
 use Rattle.g_values.specs.declared.primitive.Primitive.{Primitive}
 use Rattle.g_diagram.specs.declared.hierarchy.Clones.{Clones}
@@ -8,7 +8,7 @@ use Rattle.g_diagram.specs.declared.hierarchy.System.{System}
 use Rattle.g_diagram.specs.declared.hierarchy.Vi.{Vi}
 use Rattle.g_diagram.specs.declared.panel.Lit.{Lit}
 use Rattle.g_diagram.specs.declared.panel.PanelItem.{PanelItem}
-use Rattle.g_diagram.specs.declared.node.SharedOp.{SharedOp}
+use Rattle.g_operations.specs.declared.shared.SharedOp.{SharedOp}
 use Rattle.g_diagram.specs.declared.node.Selector.{Selector}
 use Rattle.g_diagram.specs.declared.node.Tunnel.{Tunnel}
 use Rattle.g_diagram.specs.declared.node.Node.{Node}
@@ -85,8 +85,8 @@ abbrev mutual
   tree_lines (Read object out) = one_line (kind.Read object out)
   tree_lines (Write object input) = one_line (kind.Write object input)
   tree_lines (Call vi inputs outputs) = one_line (kind.Call vi inputs outputs)
-  tree_lines (For count iteration lines body) = loop_lines lines (in_order (trees_lines body)) (λ first finish. kind.For count iteration lines first)
-  tree_lines (While stop iteration lines body) = loop_lines lines (in_order (trees_lines body)) (λ first finish. kind.While stop iteration lines first)
+  tree_lines (For count iteration lines body) = loop_lines lines (in_order (trees_lines body)) (λ first finish. kind.Loop (Some count) None iteration lines first)
+  tree_lines (While stop iteration lines body) = loop_lines lines (in_order (trees_lines body)) (λ first finish. kind.Loop None (Some stop) iteration lines first)
   tree_lines (Case selector lines arms) = case_lines selector lines (choices_lines arms)
   tree_lines (Sequence frames) = sequence_lines (frames_lines frames)
   tree_lines (InPlace lines body) = loop_lines lines (in_order (trees_lines body)) (kind.InPlace lines)
@@ -114,9 +114,9 @@ mutual
   same_lines (Write object input) = by.lines-Write object input
   same_lines (Call vi inputs outputs) = by.lines-Call vi inputs outputs
   same_lines (For count iteration lines body) = by.lines-For count iteration lines (record { nodes = nodes_of body })
-      ∙ ap (λ b. loop_lines lines b (λ first finish. kind.For count iteration lines first)) (by.lines-diagram (record { nodes = nodes_of body }) ∙ ap in_order (all_same body))
+      ∙ ap (λ b. loop_lines lines b (λ first finish. kind.Loop (Some count) None iteration lines first)) (by.lines-diagram (record { nodes = nodes_of body }) ∙ ap in_order (all_same body))
   same_lines (While stop iteration lines body) = by.lines-While stop iteration lines (record { nodes = nodes_of body })
-      ∙ ap (λ b. loop_lines lines b (λ first finish. kind.While stop iteration lines first)) (by.lines-diagram (record { nodes = nodes_of body }) ∙ ap in_order (all_same body))
+      ∙ ap (λ b. loop_lines lines b (λ first finish. kind.Loop None (Some stop) iteration lines first)) (by.lines-diagram (record { nodes = nodes_of body }) ∙ ap in_order (all_same body))
   same_lines (Case selector lines arms) = by.lines-Case selector lines (branches_of arms) ∙ ap (case_lines selector lines) (choices_same arms)
   same_lines (Sequence frames) = by.lines-Sequence (frames_of frames) ∙ ap sequence_lines (frames_same frames)
   same_lines (InPlace lines body) = by.lines-InPlace lines (record { nodes = nodes_of body })

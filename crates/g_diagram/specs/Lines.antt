@@ -1,14 +1,15 @@
--- The nodes of a VI as one list, each with its line and the line of its diagram. This alone goes down the tree of diagrams.
+-- The nodes of a VI as one list, each with its line and the line of its diagram. Every definition on lines, wires, types and firings speaks
+-- of this list, and none of them goes down the tree of diagrams.
 -- The `vi` line of a VI is line 0, and its further lines count from there; a node's line is its first one. A diagram is named by a
 -- line too: 0 for the VI's own, else the line of the `do`, `when` or `frame` before it.
-use Rattle.std.specs.Prelude.{ℕ, ◌+◌, ◌==◌, List, [], ◌∷◌, ◌++◌, filter, length, Option, Some, ℤ}
+use Rattle.std.specs.Prelude.{ℕ, ◌+◌, ◌==◌, List, [], ◌∷◌, ◌++◌, filter, length, Option, Some, None, ℤ}
 use Rattle.g_types.specs.declared.ty.Ty.{Ty}
 use Rattle.g_values.specs.declared.primitive.Primitive.{Primitive}
 use Rattle.g_diagram.specs.declared.panel.Lit.{Lit}
 use Rattle.g_diagram.specs.declared.panel.PanelItem.{PanelItem}
 use Rattle.g_diagram.specs.declared.panel.PanelItem.TheVariants.{Indicator}
 use Rattle.g_diagram.specs.declared.node.Selector.{Selector}
-use Rattle.g_diagram.specs.declared.node.SharedOp.{SharedOp}
+use Rattle.g_operations.specs.declared.shared.SharedOp.{SharedOp}
 use Rattle.g_diagram.specs.declared.node.Tunnel.{Tunnel}
 use Rattle.g_diagram.specs.declared.node.Node.{Node}
 use Rattle.g_diagram.specs.declared.node.Node.TheOpen.{Node-F, Branch-F, Diagram-F, SequenceFrame-F}
@@ -41,8 +42,8 @@ pub data Kind : Type 0 where
   Read : (object : List ℕ) → (out : Wire) → Kind
   Write : (object : List ℕ) → (input : Wire) → Kind
   Call : (vi : List ℕ) → (inputs outputs : List Wire) → Kind
-  For : (count iteration : Wire) → List Tunnel → (body : ℕ) → Kind
-  While : (stop iteration : Wire) → List Tunnel → (body : ℕ) → Kind
+  -- a `for` or `while`: the operand that counts its iterations and the one that stops it, where its form has them
+  Loop : (count stop : Option Wire) → (iteration : Wire) → List Tunnel → (body : ℕ) → Kind
   Case : (selector : Wire) → List Tunnel → List Arm → Kind
   Sequence : List Part → Kind
   -- with the line of its `end` too
@@ -141,8 +142,8 @@ node_step (Node-F.Obtain queue size item out) = one_line (Obtain queue size item
 node_step (Node-F.Read object out) = one_line (Read object out)
 node_step (Node-F.Write object input) = one_line (Write object input)
 node_step (Node-F.Call vi inputs outputs) = one_line (Call vi inputs outputs)
-node_step (Node-F.For count iteration lines body) = loop_lines lines body (λ first finish. For count iteration lines first)
-node_step (Node-F.While stop iteration lines body) = loop_lines lines body (λ first finish. While stop iteration lines first)
+node_step (Node-F.For count iteration lines body) = loop_lines lines body (λ first finish. Loop (Some count) None iteration lines first)
+node_step (Node-F.While stop iteration lines body) = loop_lines lines body (λ first finish. Loop None (Some stop) iteration lines first)
 node_step (Node-F.InPlace lines body) = loop_lines lines body (InPlace lines)
 node_step (Node-F.Case selector lines branches) = record {
   count = 2 + length lines + branches_count branches;

@@ -1,11 +1,11 @@
 -- The operands of each form of line, in order: the one table from which operand numbers, sources, consumers and wires are read.
 -- The operands of a line are its places for wires, counted from 1, left to right. In `register _ type` the `_` is operand 1.
-use Rattle.std.specs.Prelude.{ℕ, ◌+◌, Bool, true, false, List, [], ◌∷◌, ◌++◌, map, None}
+use Rattle.std.specs.Prelude.{ℕ, ◌+◌, Bool, true, false, List, [], ◌∷◌, ◌++◌, map, Option, Some, None}
 use Rattle.g_diagram.specs.declared.node.Tunnel.{Tunnel}
 use Rattle.g_diagram.specs.declared.node.Tunnel.TheVariants as line
 use Rattle.g_diagram.specs.declared.panel.PanelItem.{PanelItem}
 use Rattle.g_diagram.specs.declared.panel.PanelItem.TheVariants.{Control, Indicator}
-use Rattle.g_diagram.specs.Lines.{Wire, Arm, Part, Entry, Kind, Const, Apply, Shows, Shared, Obtain, Read, Write, Call, For, While, Case, Sequence, InPlace}
+use Rattle.g_diagram.specs.Lines.{Wire, Arm, Part, Entry, Kind, Const, Apply, Shows, Shared, Obtain, Read, Write, Call, Loop, Case, Sequence, InPlace}
 
 -- the side of a structure's border on which an operand stands
 pub data Side : Type 0 where
@@ -100,9 +100,19 @@ abbrev pub call_inputs : (ℕ → Bool) → (k : ℕ) → List Wire → List Ope
 call_inputs free k [] = []
 call_inputs free k (w ∷ ws) = record { is_source = false; side = Outside; is_free = free k; wire = w } ∷ call_inputs free (k + 1) ws
 
+-- an operand that some forms of a line have
+abbrev pub if_wired : (Wire → Operand) → Option Wire → List Operand
+if_wired form None = []
+if_wired form (Some w) = form w ∷ []
+
 -- inputs and then outputs
 abbrev pub in_and_out : (inputs outputs : List Wire) → List Operand
 in_and_out inputs outputs = map (consumer Outside) inputs ++ map (source Outside) outputs
+
+-- The first line of a loop: the count from outside, which may be left to arrays, the stop wire inside, and the iteration
+abbrev pub loop_header : (count stop : Option Wire) → (iteration : Wire) → List Operand
+loop_header count stop iteration =
+    if_wired (free_consumer Outside) count ++ (if_wired (consumer Inside) stop ++ (source Inside iteration ∷ []))
 
 -- the lines of a node that have operands
 abbrev pub kind_lines : Freedom → Entry → Kind → List Line
@@ -114,10 +124,8 @@ kind_lines free e (Obtain queue size item out) = plain_line e (source Outside ou
 kind_lines free e (Read object out) = plain_line e (source Outside out ∷ []) ∷ []
 kind_lines free e (Write object input) = plain_line e (consumer Outside input ∷ []) ∷ []
 kind_lines free e (Call vi inputs outputs) = plain_line e (call_inputs (free vi) 0 inputs ++ map (source Outside) outputs) ∷ []
-kind_lines free e (For count iteration lines body) =
-    header_line e body (free_consumer Outside count ∷ source Inside iteration ∷ []) ∷ border_lines e (body ∷ []) [] border (e.line + 1) lines
-kind_lines free e (While stop iteration lines body) =
-    header_line e body (consumer Inside stop ∷ source Inside iteration ∷ []) ∷ border_lines e (body ∷ []) [] border (e.line + 1) lines
+kind_lines free e (Loop count stop iteration lines body) =
+    header_line e body (loop_header count stop iteration) ∷ border_lines e (body ∷ []) [] border (e.line + 1) lines
 kind_lines free e (Case selector lines arms) =
     plain_line e (consumer Outside selector ∷ [])
     ∷ (border_lines e (map (λ a. a.body) arms) [] case_border (e.line + 1) lines ++ map (give_line e) arms)

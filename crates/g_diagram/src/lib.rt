@@ -7,7 +7,8 @@ mod node;
 mod panel;
 mod place;
 
+pub use g_operations::SharedOp;
 pub use hierarchy::{Clones, Hierarchy, System, Vi};
-pub use node::{Branch, Diagram, Node, Selector, SequenceFrame, SharedOp, Tunnel};
+pub use node::{Branch, Diagram, Node, Selector, SequenceFrame, Tunnel};
 pub use panel::{Lit, PanelItem, Wire};
 pub use place::{Break, Place};

@@ -2,6 +2,7 @@
 
 use crate::panel::{Lit, Wire};
 use g_lists::List;
+use g_operations::SharedOp;
 use g_types::{Name, Ty};
 use g_values::Primitive;
 
@@ -90,18 +91,6 @@ pub enum Selector {
     Truth(bool),
     Text(Name),
     Default,
-}
-
-/// An operation on a queue or on a value that a reference names.
-#[derive(Clone, Copy, Debug, PartialEq, Eq)]
-pub enum SharedOp {
-    Enqueue,
-    Dequeue,
-    Release,
-    /// `qsize`
-    Size,
-    NewRef,
-    DelRef,
 }
 
 /// A block diagram, or a diagram inside a structure.

@@ -7,7 +7,7 @@ use Rattle.g_diagram.specs.declared.panel.Lit.{Lit}
 use Rattle.g_diagram.specs.declared.panel.Lit.TheVariants as lit
 use Rattle.g_diagram.specs.declared.panel.Lit.TheOpen.{Lit-F}
 use Rattle.g_diagram.specs.declared.panel.Lit.TheFolds.{fold-roll-Lit}
-use Rattle.g_diagram.specs.declared.node.SharedOp.{SharedOp}
+use Rattle.g_operations.specs.declared.shared.SharedOp.{SharedOp}
 use Rattle.g_diagram.specs.declared.node.Tunnel.{Tunnel}
 use Rattle.g_diagram.specs.declared.node.Branch.{Branch}
 use Rattle.g_diagram.specs.declared.node.Diagram.{Diagram}

@@ -8,7 +8,7 @@ use Rattle.g_diagram.specs.declared.hierarchy.Clones.TheVariants.{NonReentrant}
 use Rattle.g_diagram.specs.declared.hierarchy.System.TheVariants.{Same}
 use Rattle.g_diagram.specs.declared.node.Selector.{Selector}
 use Rattle.g_diagram.specs.declared.node.Selector.TheVariants.{Number, Range, Truth, Text, Default}
-use Rattle.g_diagram.specs.declared.node.SharedOp.TheVariants as shared
+use Rattle.g_operations.specs.declared.shared.SharedOp.TheVariants as shared
 use Rattle.g_diagram.specs.declared.node.Tunnel.TheVariants.{Tunnel, Result, Index, Ref}
 use Rattle.g_diagram.specs.declared.panel.PanelItem.TheVariants.{Control, Indicator}
 use Rattle.g_diagram.specs.declared.place.Break.{Break}

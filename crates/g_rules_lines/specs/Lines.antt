@@ -10,8 +10,8 @@ use Rattle.g_types.specs.Same.{same_type}
 use Rattle.g_values.specs.declared.primitive.Primitive.{Primitive}
 use Rattle.g_values.specs.declared.primitive.Primitive.TheVariants as op
 use Rattle.g_diagram.specs.declared.node.Selector.{Selector}
-use Rattle.g_diagram.specs.declared.node.SharedOp.{SharedOp}
-use Rattle.g_diagram.specs.declared.node.SharedOp.TheVariants as shared
+use Rattle.g_operations.specs.declared.shared.SharedOp.{SharedOp}
+use Rattle.g_operations.specs.declared.shared.SharedOp.TheVariants as shared
 use Rattle.g_diagram.specs.declared.node.Tunnel.{Tunnel}
 use Rattle.g_diagram.specs.declared.node.Tunnel.TheVariants as line
 use Rattle.g_diagram.specs.declared.panel.PanelItem.{PanelItem}

@@ -5,8 +5,8 @@ use Rattle.g_types.specs.declared.ty.Ty.{Ty}
 use Rattle.g_prims_definitions.specs.Kinds.{part}
 use Rattle.g_diagram.specs.declared.place.Place.{Place}
 use Rattle.g_diagram.specs.declared.panel.PanelItem.{PanelItem}
-use Rattle.g_diagram.specs.declared.node.SharedOp.{SharedOp}
-use Rattle.g_diagram.specs.declared.node.SharedOp.TheVariants as shared
+use Rattle.g_operations.specs.declared.shared.SharedOp.{SharedOp}
+use Rattle.g_operations.specs.declared.shared.SharedOp.TheVariants as shared
 use Rattle.g_diagram.specs.declared.node.Tunnel.{Tunnel}
 use Rattle.g_diagram.specs.declared.node.Tunnel.TheVariants as line
 use Rattle.g_diagram.specs.Lines.{Wire, Arm, Entry, Kind, Const, Apply, Shows, Shared, Obtain, Read, Write, Call, For, While, Case, Sequence, InPlace}

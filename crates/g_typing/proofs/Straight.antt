@@ -10,7 +10,7 @@ use Rattle.g_diagram.specs.declared.hierarchy.Vi.{Vi}
 use Rattle.g_diagram.specs.declared.panel.Lit.TheVariants as lit
 use Rattle.g_diagram.specs.declared.panel.PanelItem.{PanelItem}
 use Rattle.g_diagram.specs.declared.panel.PanelItem.TheVariants.{Control, Indicator}
-use Rattle.g_diagram.specs.declared.node.SharedOp.TheVariants as shared
+use Rattle.g_operations.specs.declared.shared.SharedOp.TheVariants as shared
 use Rattle.g_diagram.specs.Lines.{Entry, entry, Const, Apply, Shows, Shared, Obtain, Read, Write, Call}
 use Rattle.g_typing.specs.Typing.{Given}
 use Rattle.g_typing.proofs.Listings.{i32, w, known, unknown, gives, breaks, at, everything, by_variant}

@@ -3,8 +3,8 @@ use Rattle.std.specs.Prelude.{ℕ, ◌+◌, List, [], ◌∷◌, ◌++◌, if◌
 use Rattle.g_types.specs.declared.ty.Ty.{Ty}
 use Rattle.g_prims_definitions.specs.Kinds.{is_assignable, part}
 use Rattle.g_diagram.specs.declared.place.Place.{Place}
-use Rattle.g_diagram.specs.declared.node.SharedOp.{SharedOp}
-use Rattle.g_diagram.specs.declared.node.SharedOp.TheVariants as shared
+use Rattle.g_operations.specs.declared.shared.SharedOp.{SharedOp}
+use Rattle.g_operations.specs.declared.shared.SharedOp.TheVariants as shared
 use Rattle.g_diagram.specs.declared.node.Tunnel.{Tunnel}
 use Rattle.g_diagram.specs.declared.node.Tunnel.TheVariants as line
 use Rattle.g_diagram.specs.Lines.{Wire, Arm, Entry, Kind, Shows, Shared, Write, Call, For, While, Case, InPlace}

@@ -7,8 +7,8 @@ use Rattle.g_values.specs.declared.primitive.Primitive.TheVariants.{Unbundle}
 use Rattle.g_prims_definitions.specs.Kinds.{is_bool, part}
 use Rattle.g_prims_definitions.specs.Rows.{row_of, first_refused, is_shallow, is_element}
 use Rattle.g_diagram.specs.declared.place.Place.{Place}
-use Rattle.g_diagram.specs.declared.node.SharedOp.{SharedOp}
-use Rattle.g_diagram.specs.declared.node.SharedOp.TheVariants as shared
+use Rattle.g_operations.specs.declared.shared.SharedOp.{SharedOp}
+use Rattle.g_operations.specs.declared.shared.SharedOp.TheVariants as shared
 use Rattle.g_diagram.specs.declared.node.Tunnel.{Tunnel}
 use Rattle.g_diagram.specs.declared.node.Tunnel.TheVariants as line
 use Rattle.g_diagram.specs.Lines.{Entry, Kind, Apply, Shared, Obtain, For, While, InPlace}

@@ -7,8 +7,8 @@ use Rattle.g_types.specs.declared.ty.Ty.TheVariants as ty
 use Rattle.g_prims_definitions.specs.Kinds.{part, array_of}
 use Rattle.g_prims_definitions.specs.Rows.{row_of}
 use Rattle.g_values.specs.declared.primitive.Primitive.{Primitive}
-use Rattle.g_diagram.specs.declared.node.SharedOp.{SharedOp}
-use Rattle.g_diagram.specs.declared.node.SharedOp.TheVariants as shared
+use Rattle.g_operations.specs.declared.shared.SharedOp.{SharedOp}
+use Rattle.g_operations.specs.declared.shared.SharedOp.TheVariants as shared
 use Rattle.g_diagram.specs.declared.node.Tunnel.{Tunnel}
 use Rattle.g_diagram.specs.declared.node.Tunnel.TheVariants as line
 use Rattle.g_diagram.specs.declared.panel.PanelItem.{PanelItem}
