@@ -15,7 +15,7 @@ use Rattle.g_diagram.specs.declared.panel.PanelItem.{PanelItem}
 use Rattle.g_diagram.specs.declared.panel.PanelItem.TheVariants.{Control, Indicator}
 use Rattle.g_diagram.specs.declared.node.Selector.{Selector}
 use Rattle.g_diagram.specs.declared.node.Selector.TheVariants as selector
-use Rattle.g_diagram.specs.Lines.{Arm, Entry, Kind, Const, Case}
+use Rattle.g_diagram.specs.Lines.{Arm, Entry, Kind, Const, Apply, Shows, Shared, Obtain, Read, Write, Call, Loop, Case, Sequence, InPlace}
 use Rattle.g_typing.specs.Types.{Types, place, wire_type}
 
 -- a number of the representation
@@ -102,7 +102,16 @@ if_selecting (Some t) f = if may_select t then f t else []
 abbrev pub kind_mistakes : Types → (vi line diagram : ℕ) → Kind → List Place
 kind_mistakes types v l d (Const t literal out) = if is_value_of literal t then [] else place v l 0 ∷ []
 kind_mistakes types v l d (Case selector lines arms) = if_selecting (wire_type types d selector) (λ t. arms_mistake v t arms)
-kind_mistakes types v l d _ = []
+kind_mistakes types v l d (Apply p inputs outputs) = []
+kind_mistakes types v l d (Shows name t input) = []
+kind_mistakes types v l d (Shared op inputs outputs) = []
+kind_mistakes types v l d (Obtain queue size item out) = []
+kind_mistakes types v l d (Read object out) = []
+kind_mistakes types v l d (Write object input) = []
+kind_mistakes types v l d (Call name inputs outputs) = []
+kind_mistakes types v l d (Loop count stop iteration lines body) = []
+kind_mistakes types v l d (Sequence parts) = []
+kind_mistakes types v l d (InPlace lines body finish) = []
 
 abbrev pub nodes_mistake : Types → (vi : ℕ) → List Entry → List Place
 nodes_mistake types v [] = []

@@ -9,7 +9,7 @@ use Rattle.g_types.specs.declared.ty.Ty.TheOpen.{Ty-F}
 use Rattle.g_diagram.specs.declared.place.Place.{Place}
 use Rattle.g_diagram.specs.declared.node.Selector.{Selector}
 use Rattle.g_diagram.specs.declared.node.Selector.TheVariants as selector
-use Rattle.g_diagram.specs.Lines.{Arm, Entry, Kind, Case}
+use Rattle.g_diagram.specs.Lines.{Arm, Entry, Kind, Const, Apply, Shows, Shared, Obtain, Read, Write, Call, Loop, Case, Sequence, InPlace}
 use Rattle.g_typing.specs.Types.{Types, place, wire_type}
 use Rattle.g_typing.specs.Rows.{unless}
 use Rattle.g_typing.specs.Literals.{is_in_range, may_select, if_selecting}
@@ -72,7 +72,17 @@ uncovered v l ss t = if is_complete ss t then [] else place v l 0 ∷ []
 abbrev pub kind_unselected : Types → (vi line diagram : ℕ) → Kind → List Place
 kind_unselected types v l d (Case selector lines arms) =
     unless (wire_type types d selector) may_select (place v l 1) ++ if_selecting (wire_type types d selector) (uncovered v l (selectors_of arms))
-kind_unselected types v l d _ = []
+kind_unselected types v l d (Const t literal out) = []
+kind_unselected types v l d (Apply p inputs outputs) = []
+kind_unselected types v l d (Shows name t input) = []
+kind_unselected types v l d (Shared op inputs outputs) = []
+kind_unselected types v l d (Obtain queue size item out) = []
+kind_unselected types v l d (Read object out) = []
+kind_unselected types v l d (Write object input) = []
+kind_unselected types v l d (Call name inputs outputs) = []
+kind_unselected types v l d (Loop count stop iteration lines body) = []
+kind_unselected types v l d (Sequence parts) = []
+kind_unselected types v l d (InPlace lines body finish) = []
 
 -- 18: all such places of a VI with these nodes
 abbrev pub unselected : Types → (vi : ℕ) → List Entry → List Place
