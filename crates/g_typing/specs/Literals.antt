@@ -1,8 +1,6 @@
 -- Rule 15: literals and selectors that aren't values of their type.
-use Rattle.std.specs.Prelude.{ℕ, ℤ, pos, neg_ℤ, ◌+◌, ◌-ℤ◌, Bool, true, false, ◌&&◌, ◌||◌, List, [], ◌∷◌, ◌++◌, length, if◌then◌else◌, Option, Some, None, nat_le, int_le, int_lt}
+use Rattle.std.specs.Prelude.{ℕ, ℤ, ◌+◌, Bool, true, false, ◌&&◌, ◌||◌, List, [], ◌∷◌, ◌++◌, length, if◌then◌else◌, Option, Some, None, nat_le}
 use Rattle.std.specs.List.{list_all}
-use Rattle.g_types.specs.declared.rep.Rep.{Rep}
-use Rattle.g_types.specs.Rep.{half, size}
 use Rattle.g_types.specs.declared.ty.Ty.{Ty, out-Ty}
 use Rattle.g_types.specs.declared.ty.Ty.TheOpen.{Ty-F}
 use Rattle.g_types.specs.Ty.{is_num}
@@ -15,12 +13,9 @@ use Rattle.g_diagram.specs.declared.panel.PanelItem.{PanelItem}
 use Rattle.g_diagram.specs.declared.panel.PanelItem.TheVariants.{Control, Indicator}
 use Rattle.g_diagram.specs.declared.node.Selector.{Selector}
 use Rattle.g_diagram.specs.declared.node.Selector.TheVariants as selector
+use Rattle.g_rules_cases.specs.Held.{is_in_range}
 use Rattle.g_diagram.specs.Lines.{Arm, Entry, Kind, Const, Apply, Shows, Shared, Obtain, Read, Write, Call, Loop, Case, Sequence, InPlace}
 use Rattle.g_typing.specs.Types.{Types, place, wire_type}
-
--- a number of the representation
-abbrev pub is_in_range : Rep → ℤ → Bool
-is_in_range r n = int_le (neg_ℤ (pos (half r))) n && int_lt n (pos (size r) -ℤ pos (half r))
 
 -- literals
 
