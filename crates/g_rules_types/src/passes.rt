@@ -15,7 +15,9 @@ use crate::kinds::is_shallow;
 use crate::literals::{is_value_of, push_case, push_panel};
 use crate::panels::{ObjectTypes, Panels, called, object};
 use crate::places::{next, place, push_unless};
-use crate::rows::{may_fit, push_count, push_lines, push_primitive, push_stop, stop_operand, wire_types};
+use crate::rows::{
+    may_fit, push_count, push_lines, push_primitive, push_stop, stop_operand, wire_types,
+};
 use crate::selected::push_selection;
 use crate::types::{WireTypes, optional_type, type_at, wire_type};
 use g_diagram::{Break, PanelItem, Place};
