@@ -30,7 +30,7 @@ fn has_index(lines: &[Tunnel]) -> bool
 }
 
 fn lacks_count(count: Option<&Wire>, lines: &[Tunnel]) -> bool
-    ensures { result ≡ spec.lacks_count (option_map (λ w. w.now) count) lines.now }
+    ensures { result ≡ spec.lacks_count (option_map (λ w. w.now) count.entry) lines.now }
 {
     match count {
         None | Some(Some(_)) => false,
