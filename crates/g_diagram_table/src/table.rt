@@ -1,14 +1,15 @@
 //! The table of nodes.
 
 ghost use Rattle.std.specs.Prelude.{◌≡◌, ◌++◌, ◌+◌, ◌∷◌, [], length, map, IfOk, OnOk};
+ghost use Rattle.std.specs.Option.{option_map};
 ghost use Rattle.g_diagram.specs.Lines as spec;
-ghost use Rattle.g_diagram.specs.Lines.{lines_of, entries_in, entries_of, panel_entries, branches_entries, frames_entries};
-ghost use Rattle.g_diagram.proofs.LineLemmas.{branch_lines, frame_lines};
+ghost use Rattle.g_diagram.specs.Lines.{lines_of, entries_in, entries_of, panel_entries, branches_entries, frames_entries, loop_lines};
+ghost use Rattle.g_diagram.proofs.LineLemmas.{branch_lines, diagram_lines, frame_lines};
 ghost use Rattle.g_diagram_table.specs.Seen.{seen, seen_arm, seen_part, seen_kind};
 
 use crate::count::{add, arm_count, give_count, node_count, nodes_count, number, part_count};
 use crate::entry::{Arm, Entry, Kind, Part};
-use g_diagram::{Branch, Node, PanelItem, SequenceFrame, Tunnel, Vi};
+use g_diagram::{Branch, Diagram, Node, PanelItem, SequenceFrame, Tunnel, Vi, Wire};
 use std::alloc::{AllocError, Global};
 
 fn push<'a>(
@@ -73,6 +74,46 @@ fn after_border(line: u32, lines: &[Tunnel]) -> Result<u32, AllocError>
     ensures { IfOk result (λ first. first ≡ line + 1 + length lines.now) }
 {
     add(add(line, 1)?, number(lines.len())?)
+}
+
+/// The operands of a `for` or of a `while`, with its border lines.
+#[derive(Clone, Copy)]
+struct LoopHeader<'a> {
+    count: Option<&'a Wire>,
+    stop: Option<&'a Wire>,
+    iteration: &'a Wire,
+    lines: &'a [Tunnel],
+}
+
+/// A loop and all nodes inside it, from a line on.
+#[cycle(walk)]
+#[tactic(auto, using(g_diagram::proofs::LineLemmas::lines_by_variant))]
+fn push_loop<'a>(
+    alloc: Global,
+    entries: &mut Vec<Entry<'a>>,
+    header: LoopHeader<'a>,
+    body: &'a Diagram,
+    line: u32,
+    diagram: u32,
+) -> Result<(), AllocError>
+    ensures { OnOk result (map seen entries.new.items ≡ map seen entries.old.items
+        ++ (loop_lines header.entry.lines.now (diagram_lines body.now) (λ first finish.
+            spec.Loop (option_map (λ w. w.now) header.entry.count) (option_map (λ w. w.now) header.entry.stop) header.entry.iteration.now header.entry.lines.now first)).entries line diagram) }
+{
+    let first = after_border(line, header.lines)?;
+    push(
+        entries,
+        line,
+        diagram,
+        Kind::Loop {
+            count: header.count,
+            stop: header.stop,
+            iteration: header.iteration,
+            lines: header.lines,
+            body: first,
+        },
+    )?;
+    push_nodes(alloc, entries, body.nodes.as_slice(), add(first, 1)?, first)
 }
 
 /// A node and all nodes inside it, from a line on.
@@ -174,20 +215,13 @@ fn push_node<'a>(
             lines,
             body,
         } => {
-            let lines = lines.as_slice();
-            let first = after_border(line, lines)?;
-            push(
-                entries,
-                line,
-                diagram,
-                Kind::For {
-                    count,
-                    iteration,
-                    lines,
-                    body: first,
-                },
-            )?;
-            push_nodes(alloc, entries, body.nodes.as_slice(), add(first, 1)?, first)
+            let header = LoopHeader {
+                count: Some(count),
+                stop: None,
+                iteration,
+                lines: lines.as_slice(),
+            };
+            push_loop(alloc, entries, header, body, line, diagram)
         }
         Node::While {
             stop,
@@ -195,20 +229,13 @@ fn push_node<'a>(
             lines,
             body,
         } => {
-            let lines = lines.as_slice();
-            let first = after_border(line, lines)?;
-            push(
-                entries,
-                line,
-                diagram,
-                Kind::While {
-                    stop,
-                    iteration,
-                    lines,
-                    body: first,
-                },
-            )?;
-            push_nodes(alloc, entries, body.nodes.as_slice(), add(first, 1)?, first)
+            let header = LoopHeader {
+                count: None,
+                stop: Some(stop),
+                iteration,
+                lines: lines.as_slice(),
+            };
+            push_loop(alloc, entries, header, body, line, diagram)
         }
         Node::Case {
             selector,
