@@ -1,9 +1,8 @@
 use Rattle.std.proofs.Common.{◌++◌, List, map, refl}
 use Rattle.g_diagram_table.specs.declared.entry.Entry.{Entry}
 use Rattle.g_diagram_table.specs.Seen as table
-use Rattle.g_rules_lines.specs.Spots.{break}
+use Rattle.g_rules_lines.specs.Spots.{break, Spot}
 use Rattle.g_rules_lines.specs.InPlaceBodies.{Diagrams, kind_spare_refs, all_spare_refs}
-use Rattle.g_rules_lines.specs.Spots.{Spot}
 use Rattle.g_rules_lines.specs.Names.{has_diagram}
 use Rattle.g_rules_lines.proofs.Steps.{told_more}
 use Rattle.g_rules_lines.proofs.in_place_bodies.push_all_spare_refs.Goals as goal

@@ -1,10 +1,9 @@
 use Rattle.std.proofs.Common.{◌++◌, ℕ, [], ap, ◌∙◌}
 use Rattle.g_diagram.specs.declared.panel.PanelItem.{PanelItem}
 use Rattle.g_diagram.specs.declared.place.Break.{Break}
-use Rattle.g_rules_lines.specs.Spots.{break}
+use Rattle.g_rules_lines.specs.Spots.{break, spot_at}
 use Rattle.g_rules_lines.specs.PanelObjects.{panel_name}
 use Rattle.g_rules_lines.specs.RepeatedNames.{named_again}
-use Rattle.g_rules_lines.specs.Spots.{spot_at}
 use Rattle.g_rules_lines.specs.Names.{has_name}
 use Rattle.g_rules_lines.proofs.RepeatLemmas.{again_more, names_more}
 use Rattle.g_rules_lines.proofs.repeated_names.push_panel_repeats.Goals as goal

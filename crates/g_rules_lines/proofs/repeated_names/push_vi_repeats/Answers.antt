@@ -1,9 +1,8 @@
 use Rattle.std.proofs.Common.{◌++◌, ℕ, List, [], refl, ◌∙◌}
 use Rattle.g_diagram.specs.declared.hierarchy.Vi.{Vi}
 use Rattle.g_diagram.specs.declared.place.Break.{Break}
-use Rattle.g_rules_lines.specs.Spots.{break}
+use Rattle.g_rules_lines.specs.Spots.{break, spot_at}
 use Rattle.g_rules_lines.specs.RepeatedNames.{named_again}
-use Rattle.g_rules_lines.specs.Spots.{spot_at}
 use Rattle.g_rules_lines.proofs.RepeatLemmas.{again_more, names_more}
 use Rattle.g_rules_lines.proofs.repeated_names.push_vi_repeats.Goals as goal
 

@@ -2,9 +2,8 @@ use Rattle.std.proofs.Common.{◌≡◌, ◌++◌, ℕ, List, [], take, drop}
 use Rattle.std.specs.List.{list_any}
 use Rattle.std.specs.Str.{bytes_eq}
 use Rattle.g_diagram.specs.declared.hierarchy.Vi.{Vi}
-use Rattle.g_rules_lines.specs.Spots.{break}
+use Rattle.g_rules_lines.specs.Spots.{break, spot_at}
 use Rattle.g_rules_lines.specs.RepeatedNames.{named_again}
-use Rattle.g_rules_lines.specs.Spots.{spot_at}
 use Rattle.g_rules_lines.specs.Names.{has_name}
 use Rattle.g_rules_lines.proofs.repeated_names.push_vi_repeats.Given as goal
 

@@ -1,7 +1,7 @@
 use Rattle.std.proofs.Common.{length, subst}
 use Rattle.g_graph.specs.Graph.{Graph, TellsCycles}
 use Rattle.g_wires.proofs.Turning.{lines_told}
-use Rattle.g_wires.proofs.turns.turning_lines.Goals as goal
+use Rattle.g_wires.proofs.cycles.turning_lines.Goals as goal
 
 pub returns : goal.returns
 returns c =

@@ -2,7 +2,7 @@ use Rattle.std.proofs.Common.{◌≡◌, ℕ, length, take}
 use Rattle.std.specs.List.{list_any}
 use Rattle.g_wires.specs.declared.coded.Coded.{Coded}
 use Rattle.g_wires.specs.Marks.{gives_before, first_at, stands_before}
-use Rattle.g_wires.proofs.firsts.first_sources.Given as goal
+use Rattle.g_wires.proofs.second_sources.first_sources.Given as goal
 
 abbrev pub invariant-loop-port : goal.invariant-loop-port
 invariant-loop-port l = record {

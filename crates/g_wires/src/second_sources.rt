@@ -5,8 +5,7 @@ ghost use Rattle.std.specs.List.{list_any};
 ghost use Rattle.g_wires.specs.declared.coded.Coded.{Coded as TheCoded};
 ghost use Rattle.g_wires.specs.Marks.{gives_before, is_lower, first_at, stands_before, follows_source, is_later_source, coded_breaks, WireBelow};
 
-use crate::coded::Coded;
-use crate::marks::push_break;
+use crate::coded::{Coded, push_break};
 use g_diagram::Break;
 use std::alloc::{AllocError, Global};
 
