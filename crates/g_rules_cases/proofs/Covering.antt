@@ -9,8 +9,8 @@ use Rattle.g_diagram.specs.declared.node.Selector.{Selector}
 use Rattle.g_diagram.specs.declared.node.Selector.TheVariants as selector
 use Rattle.g_types.specs.declared.rep.Rep.{Rep}
 use Rattle.g_types.specs.Rep.{half, size}
-use Rattle.g_typing.specs.Literals.{is_in_range}
-use Rattle.g_typing.specs.Selected.{holds, after, afters, least, is_left, misses_number}
+use Rattle.g_rules_cases.specs.Held.{is_in_range, has_number}
+use Rattle.g_rules_cases.specs.Searched.{after, afters, least, is_left, misses_number}
 
 last_of : (low high m : ℤ) → (int_le low m && int_le m high) ≡ true → (int_le low (m +ℤ pos 1) && int_le (m +ℤ pos 1) high) ≡ false → m +ℤ pos 1 ≡ high +ℤ pos 1
 last_of low high m e f = grind (arith, ints)
@@ -19,7 +19,7 @@ or_left : (a : Bool) → a ≡ true → (a || false) ≡ true
 or_left true e = refl
 or_left false e = e
 
-next_after : (p : ℤ → Bool) (m : ℤ) (s : Selector) → holds m s ≡ true → holds (m +ℤ pos 1) s ≡ false → p (m +ℤ pos 1) ≡ true → list_any p (after s) ≡ true
+next_after : (p : ℤ → Bool) (m : ℤ) (s : Selector) → has_number m s ≡ true → has_number (m +ℤ pos 1) s ≡ false → p (m +ℤ pos 1) ≡ true → list_any p (after s) ≡ true
 next_after p m (selector.Number x) e f h = or_left (p (x +ℤ pos 1)) (ap (λ y. p (y +ℤ pos 1)) (sym ((Decides-int_eq m x).0 e)) ∙ h)
 next_after p m (selector.Range low high) e f h = or_left (p (high +ℤ pos 1)) (ap p (sym (last_of low high m e f)) ∙ h)
 next_after p m (selector.Truth b) e f h = cc
@@ -50,27 +50,27 @@ none_second : (a b : Bool) → (a || b) ≡ false → b ≡ false
 none_second true b e = cc
 none_second false b e = e
 
-split : (p : ℤ → Bool) (m : ℤ) (s : Selector) (ss : List Selector) (b : Bool) → holds m s ≡ b → (b || list_any (holds m) ss) ≡ true
-    → list_any (holds (m +ℤ pos 1)) (s ∷ ss) ≡ false → p (m +ℤ pos 1) ≡ true
-    → (list_any (holds m) ss ≡ true → list_any (holds (m +ℤ pos 1)) ss ≡ false → list_any p (afters ss) ≡ true) → list_any p (after s ++ afters ss) ≡ true
+split : (p : ℤ → Bool) (m : ℤ) (s : Selector) (ss : List Selector) (b : Bool) → has_number m s ≡ b → (b || list_any (has_number m) ss) ≡ true
+    → list_any (has_number (m +ℤ pos 1)) (s ∷ ss) ≡ false → p (m +ℤ pos 1) ≡ true
+    → (list_any (has_number m) ss ≡ true → list_any (has_number (m +ℤ pos 1)) ss ≡ false → list_any p (afters ss) ≡ true) → list_any p (after s ++ afters ss) ≡ true
 split p m s ss true is e f h more =
     any_append p (after s) (afters ss)
-    ∙ or_first (list_any p (after s)) (list_any p (afters ss)) (next_after p m s is (none_first (holds (m +ℤ pos 1) s) (list_any (holds (m +ℤ pos 1)) ss) f) h)
+    ∙ or_first (list_any p (after s)) (list_any p (afters ss)) (next_after p m s is (none_first (has_number (m +ℤ pos 1) s) (list_any (has_number (m +ℤ pos 1)) ss) f) h)
 split p m s ss false is e f h more =
     any_append p (after s) (afters ss)
-    ∙ or_second (list_any p (after s)) (list_any p (afters ss)) (more e (none_second (holds (m +ℤ pos 1) s) (list_any (holds (m +ℤ pos 1)) ss) f))
+    ∙ or_second (list_any p (after s)) (list_any p (afters ss)) (more e (none_second (has_number (m +ℤ pos 1) s) (list_any (has_number (m +ℤ pos 1)) ss) f))
 
 -- a number in no branch whose predecessor is in one stands after a selector
-next_left : (p : ℤ → Bool) (m : ℤ) (ss : List Selector) → list_any (holds m) ss ≡ true → list_any (holds (m +ℤ pos 1)) ss ≡ false → p (m +ℤ pos 1) ≡ true → list_any p (afters ss) ≡ true
+next_left : (p : ℤ → Bool) (m : ℤ) (ss : List Selector) → list_any (has_number m) ss ≡ true → list_any (has_number (m +ℤ pos 1)) ss ≡ false → p (m +ℤ pos 1) ≡ true → list_any p (afters ss) ≡ true
 next_left p m [] e f h = cc
-next_left p m (s ∷ ss) e f h = split p m s ss (holds m s) refl e f h (λ e' f'. next_left p m ss e' f' h)
+next_left p m (s ∷ ss) e f h = split p m s ss (has_number m s) refl e f h (λ e' f'. next_left p m ss e' f' h)
 
 -- numbers from lo on and below hi
 abbrev within : (lo hi : ℤ) → ℤ → Bool
 within lo hi n = int_le lo n && int_lt n hi
 
 abbrev left_in : (lo hi : ℤ) → List Selector → ℤ → Bool
-left_in lo hi ss n = within lo hi n && not (list_any (holds n) ss)
+left_in lo hi ss n = within lo hi n && not (list_any (has_number n) ss)
 
 both : (a b : Bool) → a ≡ true → b ≡ false → (a && not b) ≡ true
 both true false e f = refl
@@ -86,21 +86,21 @@ first lo = omega (arith, ints)
 next : (lo : ℤ) (k : ℕ) → lo +ℤ pos (suc k) ≡ (lo +ℤ pos k) +ℤ pos 1
 next lo k = omega (arith, ints)
 
-step : (lo hi : ℤ) (ss : List Selector) (k : ℕ) (b : Bool) → list_any (holds (lo +ℤ pos k)) ss ≡ b → within lo hi ((lo +ℤ pos k) +ℤ pos 1) ≡ true → list_any (holds ((lo +ℤ pos k) +ℤ pos 1)) ss ≡ false
-    → (list_any (holds (lo +ℤ pos k)) ss ≡ false → list_any (left_in lo hi ss) (lo ∷ afters ss) ≡ true) → list_any (left_in lo hi ss) (lo ∷ afters ss) ≡ true
+step : (lo hi : ℤ) (ss : List Selector) (k : ℕ) (b : Bool) → list_any (has_number (lo +ℤ pos k)) ss ≡ b → within lo hi ((lo +ℤ pos k) +ℤ pos 1) ≡ true → list_any (has_number ((lo +ℤ pos k) +ℤ pos 1)) ss ≡ false
+    → (list_any (has_number (lo +ℤ pos k)) ss ≡ false → list_any (left_in lo hi ss) (lo ∷ afters ss) ≡ true) → list_any (left_in lo hi ss) (lo ∷ afters ss) ≡ true
 step lo hi ss k true is e f more =
     or_second (left_in lo hi ss lo) (list_any (left_in lo hi ss) (afters ss))
-    (next_left (left_in lo hi ss) (lo +ℤ pos k) ss is f (both (within lo hi ((lo +ℤ pos k) +ℤ pos 1)) (list_any (holds ((lo +ℤ pos k) +ℤ pos 1)) ss) e f))
+    (next_left (left_in lo hi ss) (lo +ℤ pos k) ss is f (both (within lo hi ((lo +ℤ pos k) +ℤ pos 1)) (list_any (has_number ((lo +ℤ pos k) +ℤ pos 1)) ss) e f))
 step lo hi ss k false is e f more = more is
 
-climb : (lo hi : ℤ) (ss : List Selector) (k : ℕ) → within lo hi (lo +ℤ pos k) ≡ true → list_any (holds (lo +ℤ pos k)) ss ≡ false → list_any (left_in lo hi ss) (lo ∷ afters ss) ≡ true
+climb : (lo hi : ℤ) (ss : List Selector) (k : ℕ) → within lo hi (lo +ℤ pos k) ≡ true → list_any (has_number (lo +ℤ pos k)) ss ≡ false → list_any (left_in lo hi ss) (lo ∷ afters ss) ≡ true
 climb lo hi ss zero e f =
     or_first (left_in lo hi ss lo) (list_any (left_in lo hi ss) (afters ss))
-    (subst (λ (n : ℤ). left_in lo hi ss n ≡ true) (first lo) (both (within lo hi (lo +ℤ pos 0)) (list_any (holds (lo +ℤ pos 0)) ss) e f))
+    (subst (λ (n : ℤ). left_in lo hi ss n ≡ true) (first lo) (both (within lo hi (lo +ℤ pos 0)) (list_any (has_number (lo +ℤ pos 0)) ss) e f))
 climb lo hi ss (suc k) e f =
     let e' : within lo hi ((lo +ℤ pos k) +ℤ pos 1) ≡ true = subst (λ (n : ℤ). within lo hi n ≡ true) (next lo k) e in
-    let f' : list_any (holds ((lo +ℤ pos k) +ℤ pos 1)) ss ≡ false = subst (λ (n : ℤ). list_any (holds n) ss ≡ false) (next lo k) f in
-    step lo hi ss k (list_any (holds (lo +ℤ pos k)) ss) refl e' f' (λ g. climb lo hi ss k (below lo hi k e') g)
+    let f' : list_any (has_number ((lo +ℤ pos k) +ℤ pos 1)) ss ≡ false = subst (λ (n : ℤ). list_any (has_number n) ss ≡ false) (next lo k) f in
+    step lo hi ss k (list_any (has_number (lo +ℤ pos k)) ss) refl e' f' (λ g. climb lo hi ss k (below lo hi k e') g)
 
 counted : (lo n : ℤ) → int_le lo n ≡ true → n ≡ lo +ℤ pos (int_gap lo n)
 counted lo n e = grind (arith, ints)
@@ -118,24 +118,24 @@ was_false true e = sym e
 was_false false e = refl
 
 -- a number of the type that is in no branch is missed
-pub missed : (r : Rep) (ss : List Selector) (n : ℤ) → is_in_range r n ≡ true → list_any (holds n) ss ≡ false → misses_number r ss ≡ true
+pub missed : (r : Rep) (ss : List Selector) (n : ℤ) → is_in_range r n ≡ true → list_any (has_number n) ss ≡ false → misses_number r ss ≡ true
 missed r ss n e f =
     let lo : ℤ = least r in
     let hi : ℤ = pos (size r) -ℤ pos (half r) in
     let is : n ≡ lo +ℤ pos (int_gap lo n) = counted lo n (both_left (int_le lo n) (int_lt n hi) e) in
-    climb lo hi ss (int_gap lo n) (subst (λ (m : ℤ). within lo hi m ≡ true) is e) (subst (λ (m : ℤ). list_any (holds m) ss ≡ false) is f)
+    climb lo hi ss (int_gap lo n) (subst (λ (m : ℤ). within lo hi m ≡ true) is e) (subst (λ (m : ℤ). list_any (has_number m) ss ≡ false) is f)
 
 -- a number of the type that is in no branch
 pub record Left (r : Rep) (ss : List Selector) : Type 0 where
   pub number : ℤ
   pub in_range : is_in_range r number ≡ true
-  pub left : list_any (holds number) ss ≡ false
+  pub left : list_any (has_number number) ss ≡ false
 
 left_from : (r : Rep) (ss : List Selector) (n : ℤ) → is_left r ss n ≡ true → Left r ss
 left_from r ss n e = record {
   number = n;
-  in_range = both_left (is_in_range r n) (not (list_any (holds n) ss)) e;
-  left = was_false (list_any (holds n) ss) (both_right (is_in_range r n) (not (list_any (holds n) ss)) e);
+  in_range = both_left (is_in_range r n) (not (list_any (has_number n) ss)) e;
+  left = was_false (list_any (has_number n) ss) (both_right (is_in_range r n) (not (list_any (has_number n) ss)) e);
 }
 
 either : (r : Rep) (ss : List Selector) (n : ℤ) (b rest : Bool) → is_left r ss n ≡ b → (b || rest) ≡ true → (rest ≡ true → Left r ss) → Left r ss
