@@ -1,3 +1,2 @@
 pub mod Bundles
 pub mod References
-pub mod Sames
