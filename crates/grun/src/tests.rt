@@ -60,12 +60,13 @@ fn calls(rt: &HostRuntime, fails: &[u64]) -> Result<CallList, AllocError> {
 }
 
 /// Makes the call with a source that fails at these calls, and a sink that fails at those; compares
-/// the status, what was written, and whether there is a trace.
+/// the status, what was written, and whether nodes fired.
 fn answers(
     rt: &HostRuntime,
     call: (&str, &str),
     fails: (&[u64], &[u64]),
     wanted: (u8, &str),
+    fired: bool,
 ) -> Result<bool, AllocError> {
     let words = words(rt, call.0)?;
     let bytes = Bytes::from_slice(rt.alloc(), call.1.as_bytes())?;
@@ -73,7 +74,9 @@ fn answers(
     let room = Bytes::from_vec(vec![in rt.alloc(); b'.'; 128]?);
     let mut sink = MemorySink::new(16, calls(rt, fails.1)?, room);
     let outcome = grun_call(rt.alloc(), &words, &mut source, &mut sink);
-    Ok(outcome.status == wanted.0 && sink.written() == wanted.1.as_bytes())
+    Ok(outcome.status == wanted.0
+        && sink.written() == wanted.1.as_bytes()
+        && outcome.trace.is_some() == fired)
 }
 
 #[test]
