@@ -29,7 +29,7 @@ use Rattle.g_fire.specs.Program.{Program}
 use Rattle.g_fire.specs.State.{terminal, frame_node, first_frame, is_last, is_done, control_values, start, start_of}
 use Rattle.g_fire.specs.Fire.{Effect, Reader, reader_in, outputs_from, put_all, effect_of, node_at, on_node, on_frame, can_fire, fire, or_same, objects_after}
 use Rattle.g_fire.specs.Run.{firing, after_from, go_on}
-use Rattle.g_fire.specs.Plan.{Kinds, at_operand, AreKnown, IsTypedWork, IsTypedStep, GivesWork, input_kind, value_of_input, step_of, step_can, step_fired, step_plain, work_effect, IsPlan}
+use Rattle.g_fire.specs.Plan.{Kinds, at_operand, AreKnown, IsTypedWork, IsTypedStep, GivesWork, input_kind, value_of_input, step_of, step_can, step_fired, step_wired, work_effect, IsPlan}
 use Rattle.g_fire.proofs.StepLemmas.{some_is, refute, and_left, and_right, both, effect_is}
 use Rattle.g_fire.proofs.Bridge.{can_at, fire_at, in_frame, mapped_at}
 use Rattle.g_fire.proofs.RunLemmas.{plain_step, start_frames}
@@ -110,7 +110,7 @@ map_has f [] i h = h
 map_has f (x ∷ xs) zero h = refl
 map_has f (x ∷ xs) (suc i) h = map_has f xs i h
 
-module _ (kinds : Kinds) (s : FireState) (all : AreKnown kinds s.values) (st : Step) (can : step_can s st ≡ true) (plain : step_plain st ≡ true) (typed : IsTypedStep kinds st) where
+module _ (kinds : Kinds) (s : FireState) (all : AreKnown kinds s.values) (st : Step) (can : step_can s st ≡ true) (plain : step_wired st ≡ true) (typed : IsTypedStep kinds st) where
   abbrev taken_values : List Value
   taken_values = map (value_of_input s) st.inputs
 

@@ -23,7 +23,7 @@ use Rattle.g_diagram.specs.Ports.{Port, ports_from, ports_in}
 use Rattle.g_fire.specs.declared.maps.WireSource.{WireSource}
 use Rattle.g_fire.specs.Names.{Table, named, add_name, add_all, given_wires, given_panel, given_at, given_nodes}
 use Rattle.g_fire.specs.Wires.{source_of, inputs_of}
-use Rattle.g_fire.specs.Plan.{Finder, input_on, found_input, is_wired, step_of, step_plain, Ascends}
+use Rattle.g_fire.specs.Plan.{Finder, input_on, found_input, is_wired, step_of, step_wired, Ascends}
 use Rattle.g_fire.proofs.WireLemmas.{inputs-Apply}
 use Rattle.g_fire.proofs.StepLemmas.{and_left, and_right, both, refute}
 
@@ -125,7 +125,7 @@ given_kind l _ = []
 pub record IsLine (find : Finder) (n : Node-F Node Branch Diagram SequenceFrame) : Type 0 where
   pub kind : Kind
   pub line : lines_of (roll-Node n) ≡ one_line kind
-  pub plain : (l : ℕ) → step_plain (step_of find (entry l 0 kind)) ≡ true
+  pub plain : (l : ℕ) → step_wired (step_of find (entry l 0 kind)) ≡ true
   pub given : (l : ℕ) → given_at l n ≡ given_kind l kind
   pub sources : (q : List ℕ) (l : ℕ) (free : Freedom) (es : List Entry)
       → source_of (ports_in (entries_lines free (entry l 0 kind ∷ es))) 0 q ≡ or_else (named (given_at l n) q) (source_of (ports_in (entries_lines free es)) 0 q)
@@ -162,7 +162,7 @@ is_line find _ h = absurd (refute h)
 -- ---- all nodes
 
 module _ (find : Finder) where
-  pub panel_plain : (l : ℕ) (items : List PanelItem) (es : List Entry) → list_all step_plain (map (step_of find) es) ≡ true → list_all step_plain (map (step_of find) (panel_entries items l ++ es)) ≡ true
+  pub panel_plain : (l : ℕ) (items : List PanelItem) (es : List Entry) → list_all step_wired (map (step_of find) es) ≡ true → list_all step_wired (map (step_of find) (panel_entries items l ++ es)) ≡ true
   panel_plain l [] es h = h
   panel_plain l (Control name t required given out ∷ items) es h = panel_plain (l + 1) items es h
   panel_plain l (Indicator name t None ∷ items) es h = panel_plain (l + 1) items es h
@@ -175,11 +175,11 @@ module _ (find : Finder) where
       let line = is_line find (out-Node n) h in
       (line, ap (λ ls. ls.entries l 0 ++ nodes_entries ns (l + ls.count) 0) (ap lines_of (sym (roll-out-Node n)) ∙ line.line))
 
-  pub nodes_plain : (l : ℕ) (ns : List Node) → list_all is_flat_node ns ≡ true → list_all step_plain (map (step_of find) (nodes_entries ns l 0)) ≡ true
+  pub nodes_plain : (l : ℕ) (ns : List Node) → list_all is_flat_node ns ≡ true → list_all step_wired (map (step_of find) (nodes_entries ns l 0)) ≡ true
   nodes_plain l [] h = refl
   nodes_plain l (n ∷ ns) h =
       let first = first_node n ns l (and_left (is_flat_node n) (list_all is_flat_node ns) h) in
-      subst (λ es. list_all step_plain (map (step_of find) es) ≡ true) (sym first.1)
+      subst (λ es. list_all step_wired (map (step_of find) es) ≡ true) (sym first.1)
       (both _ _ (first.0.plain l) (nodes_plain (l + 1) ns (and_right (is_flat_node n) (list_all is_flat_node ns) h)))
 
   nodes_sources : (q : List ℕ) (l : ℕ) (ns : List Node) (free : Freedom) → list_all is_flat_node ns ≡ true

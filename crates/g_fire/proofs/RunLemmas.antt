@@ -16,7 +16,7 @@ use Rattle.g_fire.specs.State.{first_frame, begun, start, start_of}
 use Rattle.g_fire.specs.Fire.{Effect, or_same}
 use Rattle.g_fire.specs.Run.{firing, after}
 use Rattle.g_fire.specs.Flat.{AreControls}
-use Rattle.g_fire.specs.Plan.{AreKnown, step_can, step_effect, step_fired, step_plain, CanAt, IsPlan}
+use Rattle.g_fire.specs.Plan.{AreKnown, step_can, step_effect, step_fired, step_wired, CanAt, IsPlan}
 use Rattle.g_fire.proofs.StepLemmas.{and_left, and_right, refute}
 use Rattle.g_fire.proofs.Bridge.{can_at, fire_at, after_more, map_at, mapped_at}
 use Rattle.g_fire.proofs.TypedLemmas.{controls_known}
@@ -28,14 +28,14 @@ is_step s steps k can st is = can.1 ∙ ap Some (sym (is ∙ get_or_from_slice_g
 pub can_step : (s : FireState) (steps : List Step) (k : ℕ) → CanAt s steps k → (st : Step) → st ≡ get_or steps k st → step_can s st ≡ true
 can_step s steps k can st is = subst (λ x. step_can s x ≡ true) (sym (is ∙ get_or_from_slice_get steps k can.0 st can.1)) can.2
 
-pub plain_step : (steps : List Step) (k : ℕ) (st : Step) → list_all step_plain steps ≡ true → slice_get steps k ≡ Some st → step_plain st ≡ true
+pub plain_step : (steps : List Step) (k : ℕ) (st : Step) → list_all step_wired steps ≡ true → slice_get steps k ≡ Some st → step_wired st ≡ true
 plain_step [] k st plain at = absurd (refute (ap is_some at))
-plain_step (x ∷ steps) zero st plain at = subst (λ o. is_plain_in o ≡ true) at (and_left (step_plain x) (list_all step_plain steps) plain)
+plain_step (x ∷ steps) zero st plain at = subst (λ o. is_plain_in o ≡ true) at (and_left (step_wired x) (list_all step_wired steps) plain)
   where
     is_plain_in : Option Step → Bool
     is_plain_in None = true
-    is_plain_in (Some y) = step_plain y
-plain_step (x ∷ steps) (suc k) st plain at = plain_step steps k st (and_right (step_plain x) (list_all step_plain steps) plain) at
+    is_plain_in (Some y) = step_wired y
+plain_step (x ∷ steps) (suc k) st plain at = plain_step steps k st (and_right (step_wired x) (list_all step_wired steps) plain) at
 
 pub goes_on : (p : Program) (steps : List Step) → IsPlan p steps → (s : FireState) → s.frames ≡ first_frame ∷ [] → (controls : List Value) (trace : List Firing)
     → after p controls trace ≡ Some s → (k : ℕ) (st : Step) → slice_get steps k ≡ Some st → step_can s st ≡ true

@@ -29,7 +29,7 @@ use Rattle.g_fire.specs.Maps.{same_terminal, value_at, put_value}
 use Rattle.g_fire.specs.State.{terminal, control_values}
 use Rattle.g_fire.specs.Fire.{or_same, or_false, shows_in, put_all, outputs_from}
 use Rattle.g_fire.specs.Run.{firing}
-use Rattle.g_fire.specs.Plan.{Kinds, at_operand, IsKnown, AreKnown, input_kind, GiveKinds, HasKinds, IsTypedWork, IsTypedStep, ControlsGive, FitsWork, FitsStep, is_wired, has_input, value_of_input, plain_work, step_plain, step_can, step_fired, work_effect}
+use Rattle.g_fire.specs.Plan.{Kinds, at_operand, IsKnown, AreKnown, input_kind, GiveKinds, HasKinds, IsTypedWork, IsTypedStep, ControlsGive, FitsWork, FitsStep, is_wired, has_input, value_of_input, work_wired, step_wired, step_can, step_fired, work_effect}
 use Rattle.g_fire.proofs.StepLemmas.{and_left, and_right, refute, some_is, ready, effect_is}
 
 module _ (kinds : Kinds) where
@@ -90,12 +90,12 @@ module _ (kinds : Kinds) where
         ap (λ k. k ∷ map (input_kind kinds) ins) (input_known i (and_left (is_wired i) (list_all is_wired ins) w) (and_left (has_input s i) (list_all (has_input s) ins) h)).1
         ∙ ap (λ ks. Some (type_of (value_of_input s i)) ∷ ks) (inputs_kinds ins (and_right (is_wired i) (list_all is_wired ins) w) (and_right (has_input s i) (list_all (has_input s) ins) h))
 
-    module _ (st : Step) (can : step_can s st ≡ true) (plain : step_plain st ≡ true) (typed : IsTypedStep kinds st) where
+    module _ (st : Step) (can : step_can s st ≡ true) (plain : step_wired st ≡ true) (typed : IsTypedStep kinds st) where
       abbrev vs : List Value
       vs = map (value_of_input s) st.inputs
 
       pub wired : list_all is_wired st.inputs ≡ true
-      wired = and_right (plain_work (length st.inputs) st.work) (list_all is_wired st.inputs) plain
+      wired = and_right (work_wired (length st.inputs) st.work) (list_all is_wired st.inputs) plain
 
       has : list_all (has_input s) st.inputs ≡ true
       has = and_right _ (list_all (has_input s) st.inputs) (ready s st can)

@@ -95,13 +95,13 @@ is_wired Unwired = false
 is_wired Missing = true
 is_wired (From source) = true
 
-abbrev pub plain_work : (inputs : ℕ) → Work → Bool
-plain_work n (work.Show t) = n == 1
-plain_work n _ = true
+abbrev pub work_wired : (inputs : ℕ) → Work → Bool
+work_wired n (work.Show t) = n == 1
+work_wired n _ = true
 
 -- each input is named, and an indicator has one
-abbrev pub step_plain : Step → Bool
-step_plain st = plain_work (length st.inputs) st.work && list_all is_wired st.inputs
+abbrev pub step_wired : Step → Bool
+step_wired st = work_wired (length st.inputs) st.work && list_all is_wired st.inputs
 
 -- the types of what sources give
 abbrev pub Kinds : Type 0
@@ -184,7 +184,7 @@ pub record IsPlan (p : Program) (steps : List Step) : Type 0 where
   pub finds : (name : List ℕ) → find name ≡ source_of vi.ports 0 name
   pub steps_are : steps ≡ map (step_of find) vi.entries
   pub ascends : Ascends 0 vi.entries
-  pub plain : IsTrue (list_all step_plain steps)
+  pub plain : IsTrue (list_all step_wired steps)
   pub kinds : Kinds
   pub typed : (k : ℕ) (st : Step) → slice_get steps k ≡ Some st → IsTypedStep kinds st
   pub controls : ControlsGive kinds 1 vi.panel

@@ -1,4 +1,4 @@
-//! The firing machine: the plain meaning of a hierarchy, by frames, values on wires, and firings one after the other.
+//! The firing machine: what a hierarchy means, by frames, values on wires, and firings one after the other.
 #![tactic(auto)]
 
 mod firing;

@@ -127,7 +127,7 @@ fn is_last(fired: Fired) -> bool
 
 impl FireState {
     ghost use Rattle.std.specs.Prelude.{slice_get, true};
-    ghost use Rattle.g_fire.specs.Plan.{step_can, step_fired, step_plain, value_of_input, Fits, FitsStep};
+    ghost use Rattle.g_fire.specs.Plan.{step_can, step_fired, step_wired, value_of_input, Fits, FitsStep};
     ghost use Rattle.g_fire.specs.Run.{firing};
     ghost use Rattle.g_fire.specs.Fire.{gives, shows_in, applied, or_same, outputs_from};
     ghost use Rattle.g_fire.specs.declared.state.Fired.TheVariants.{Once};
@@ -214,7 +214,7 @@ impl FireState {
     /// Fires a node that can fire.
     pub(crate) fn fire(&mut self, alloc: Global, step: &Step) -> Result<(), AllocError>
         requires can { step_can self.old step.now ≡ true }
-        requires plain { IsTrue (step_plain step.now) }
+        requires plain { IsTrue (step_wired step.now) }
         requires fits { FitsStep self.old step.now }
         ensures { OnOk result (self.new ≡ step_fired self.old step.now) }
     {

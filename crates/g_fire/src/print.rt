@@ -10,7 +10,7 @@ ghost use Rattle.g_fire.specs.Run.{end_of, IsReached};
 ghost use Rattle.g_fire.specs.Print.{indicator_lines, cells_of, end_lines, print};
 
 use crate::plan::Step;
-use crate::run::{least_step, main_vi, steps_of};
+use crate::run::{able_step, main_vi, steps_of};
 use crate::state::{Content, End, FireState};
 use g_diagram::{Hierarchy, PanelItem};
 use g_hier::Linked;
@@ -98,7 +98,7 @@ pub(crate) fn end_at(
 {
     let steps = steps_of(alloc, h, main)?;
     let steps = steps.as_slice();
-    if least_step(steps, state).is_some() {
+    if able_step(steps, state).is_some() {
         return Ok(End::Unfinished);
     }
     if all_done(state, steps) {

@@ -53,7 +53,7 @@ fn note_takers(leads: &[Lead], line: u64, noted: &mut BTreeSet<usize>) -> Result
     Ok(())
 }
 
-/// The least node of those noted that can fire. Those before it are noted no more.
+/// A node of those noted that can fire. It, and those that were looked at and can't, are noted no more.
 fn noted_step(steps: &[Step], state: &FireState, noted: &mut BTreeSet<usize>) -> Option<usize>
     ensures some { IfSome result (CanAt state.now steps.now) }
     ensures within { IfSome result (λ at. at < length steps.now) }
@@ -69,8 +69,8 @@ fn noted_step(steps: &[Step], state: &FireState, noted: &mut BTreeSet<usize>) ->
     None
 }
 
-/// The least node that can fire.
-pub(crate) fn least_step(steps: &[Step], state: &FireState) -> Option<usize>
+/// A node that can fire, where there is one.
+pub(crate) fn able_step(steps: &[Step], state: &FireState) -> Option<usize>
     ensures some { IfSome result (CanAt state.now steps.now) }
     ensures within { IfSome result (λ at. at < length steps.now) }
     ensures none { IfNone result (list_any (step_can state.now) steps.now ≡ false) }
@@ -90,7 +90,7 @@ fn next_step(steps: &[Step], state: &FireState, noted: &mut BTreeSet<usize>) -> 
 {
     match noted_step(steps, state, noted) {
         Some(at) => Some(at),
-        None => least_step(steps, state),
+        None => able_step(steps, state),
     }
 }
 
@@ -129,8 +129,8 @@ pub struct Ran {
 }
 
 /// Runs a hierarchy whose VI that runs has constants, primitives and indicators alone, on the values
-/// of its controls: fires the node of the least line that can fire, until none can. Only want of
-/// memory refuses it.
+/// of its controls: fires one node after another that can fire, until none can. Which of several goes
+/// first is left open. Only want of memory refuses it.
 pub fn run_all(
     alloc: Global,
     h: &Hierarchy,

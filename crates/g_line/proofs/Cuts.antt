@@ -45,7 +45,9 @@ same_parts (c ∷ n) (d ∷ m) a b p q e =
     let names = rest.0 in
     (cc, rest.1)
 
-pub same_setting : (s t : Setting) → is_word s.name ≡ true → is_word t.name ≡ true → setting_word s ≡ setting_word t → s ≡ t
-same_setting s t p q e =
+pub same_setting : (s t : Setting) → s.word ≡ t.word → is_word s.name ≡ true → is_word t.name ≡ true → setting_word s ≡ setting_word t → s ≡ t
+same_setting s t w p q e =
     let parts = same_parts s.name t.name s.text t.text (are_word_bytes s.name p) (are_word_bytes t.name q) e in
-    ap (λ n. let x : Setting = record { name = n; text = s.text } in x) parts.0 ∙ ap (λ n. let x : Setting = record { name = t.name; text = n } in x) parts.1
+    ap (λ n. let x : Setting = record { word = n; name = s.name; text = s.text } in x) w
+    ∙ ap (λ n. let x : Setting = record { word = t.word; name = n; text = s.text } in x) parts.0
+    ∙ ap (λ n. let x : Setting = record { word = t.word; name = t.name; text = n } in x) parts.1

@@ -70,10 +70,10 @@ later_word words Print i w run h e = absurd (run_no_print (sym (one_command word
 
 -- what begins a line
 begins_nothing : BeginsLine []
-begins_nothing = (codes "run" ∷ codes "a" ∷ [], Run (codes "a") [], ([], record { written = refl; main_is_name = refl; right = tt; given = refl }))
+begins_nothing = (codes "run" ∷ codes "a" ∷ [], Run (codes "a") [], ([], record { written = refl; main_is_name = refl; right = tt; numbered = tt; given = refl }))
 
 begins_command : BeginsLine (codes "run" ∷ [])
-begins_command = (codes "a" ∷ [], Run (codes "a") [], ([], record { written = refl; main_is_name = refl; right = tt; given = refl }))
+begins_command = (codes "a" ∷ [], Run (codes "a") [], ([], record { written = refl; main_is_name = refl; right = tt; numbered = tt; given = refl }))
 
 begins_check : BeginsLine (codes "check" ∷ [])
 begins_check = (codes "a" ∷ [], Check (codes "a"), record { written = refl; main_is_name = refl })
@@ -165,6 +165,7 @@ line_of_settings (a ∷ b ∷ words) main settings run m n s =
         written = s.written ∙ ap (λ (w : Word). w ∷ b ∷ flat_map argument_words (map Sets settings)) command ∙ ap (λ (w : Word). codes "run" ∷ w ∷ flat_map argument_words (map Sets settings)) second;
         main_is_name = m.name;
         right = s.right;
+        numbered = s.numbered;
         given = settings_of-map settings;
       },
     )
@@ -198,7 +199,7 @@ only_line words (Run main settings) h (Run main' settings') h' =
     let e = sym h'.1.written ∙ h.1.written in
     let mains : main' ≡ main = cc in
     let texts : flat_map argument_words h'.0 ≡ flat_map argument_words h.0 = cc in
-    let arguments = same_arguments h'.0 h.0 h'.1.right h.1.right texts in
+    let arguments = same_arguments 3 h'.0 h.0 h'.1.right h.1.right h'.1.numbered h.1.numbered texts in
     let given = ap settings_of arguments in
     let a = h.1.given in
     let b = h'.1.given in

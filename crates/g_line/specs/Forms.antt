@@ -1,5 +1,5 @@
 -- The forms of a command line: a command, what belongs to it, and arguments in any order.
-use Rattle.std.specs.Prelude.{◌≡◌, ℕ, true, List, [], ◌∷◌, ◌++◌, codes, refl}
+use Rattle.std.specs.Prelude.{◌≡◌, ⊤, ℕ, ◌+◌, true, List, [], ◌∷◌, ◌++◌, codes, refl}
 use Rattle.std.specs.List.{AllByRecursion, flat_map}
 use Rattle.g_types.specs.Names.{is_word}
 use Rattle.g_line.specs.declared.forms.Setting.{Setting}
@@ -25,6 +25,11 @@ argument_words (Sets s) = setting_word s ∷ []
 abbrev pub IsArgument : Argument → Type 0
 IsArgument (Sets s) = is_word s.name ≡ true
 
+-- each setting carries the number of its word, where the arguments begin with the word of this number
+abbrev pub AreNumbered : (word : ℕ) → List Argument → Type 0
+AreNumbered word [] = ⊤
+AreNumbered word (Sets s ∷ more) = (s.word ≡ word) × AreNumbered (word + 1) more
+
 -- the settings among arguments, in their order
 abbrev pub settings_of : List Argument → List Setting
 settings_of [] = []
@@ -35,6 +40,7 @@ pub record IsRun (words : List Word) (main : Word) (settings : List Setting) (ar
   pub written : words ≡ codes "run" ∷ main ∷ flat_map argument_words arguments
   pub main_is_name : is_word main ≡ true
   pub right : AllByRecursion IsArgument arguments
+  pub numbered : AreNumbered 3 arguments
   pub given : settings ≡ settings_of arguments
 
 -- `check MAIN`
@@ -50,16 +56,17 @@ HasLine words Print = words ≡ codes "print" ∷ []
 
 -- examples: `run Main a=1 b==` has the settings 1 and `=`
 two : List Setting
-two = record { name = codes "a"; text = codes "1" } ∷ record { name = codes "b"; text = codes "=" } ∷ []
+two = record { word = 3; name = codes "a"; text = codes "1" } ∷ record { word = 4; name = codes "b"; text = codes "=" } ∷ []
 
 runs_main : HasLine (codes "run" ∷ codes "Main" ∷ codes "a=1" ∷ codes "b==" ∷ []) (Run (codes "Main") two)
 unfolding two
 runs_main = (
-  Sets (record { name = codes "a"; text = codes "1" }) ∷ Sets (record { name = codes "b"; text = codes "=" }) ∷ [],
+  Sets (record { word = 3; name = codes "a"; text = codes "1" }) ∷ Sets (record { word = 4; name = codes "b"; text = codes "=" }) ∷ [],
   record {
     written = refl;
     main_is_name = refl;
     right = (refl, (refl, tt));
+    numbered = (refl, (refl, tt));
     given = refl;
   },
 )

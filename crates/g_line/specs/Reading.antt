@@ -5,15 +5,16 @@ use Rattle.g_types.specs.Names.{is_word}
 use Rattle.g_line.specs.declared.forms.Setting.{Setting}
 use Rattle.g_line.specs.declared.forms.LineRefused.{LineRefused}
 use Rattle.g_line.specs.declared.forms.LineRefused.TheVariants.{Usage, Memory}
-use Rattle.g_line.specs.Forms.{Word, setting_word, IsArgument, argument_words, Sets}
+use Rattle.g_line.specs.Forms.{Word, setting_word, IsArgument, AreNumbered, argument_words, Sets}
 
 -- what a refusal's number is, where it has one
 abbrev pub OnUsage : (ℕ → Type 0) → LineRefused → Type 0
 OnUsage P (Usage k) = P k
 OnUsage P (Memory e) = Unit {0}
 
-abbrev pub IsSettingOf : Word → Setting → Type 0
-IsSettingOf w s = (is_word s.name ≡ true) × (w ≡ setting_word s)
+-- the word of this number is this setting
+abbrev pub IsSettingOf : (number : ℕ) → Word → Setting → Type 0
+IsSettingOf number w s = (s.word ≡ number) × (is_word s.name ≡ true) × (w ≡ setting_word s)
 
 abbrev pub IsNoSetting : Word → Type 0
 IsNoSetting w = (s : Setting) → is_word s.name ≡ true → w ≢ setting_word s
@@ -21,6 +22,8 @@ IsNoSetting w = (s : Setting) → is_word s.name ≡ true → w ≢ setting_word
 -- the words from one place to another are settings
 pub record AreSettings (words : List Word) (first last : ℕ) (settings : List Setting) : Type 0 where
   pub right : AllByRecursion IsArgument (map Sets settings)
+  pub each : last ≡ first + length settings
+  pub numbered : AreNumbered (first + 1) (map Sets settings)
   pub written : take last words ≡ take first words ++ flat_map argument_words (map Sets settings)
 
 -- the words from a place on are settings up to the k-th word, from 1, which is none

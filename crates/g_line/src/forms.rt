@@ -12,6 +12,8 @@ use thiserror::Error;
 /// was written, and may be empty: whether it is a value of the control's type is decided later.
 #[derive(Debug, Drop)]
 pub struct Setting {
+    /// The number of its word, from 1.
+    pub word: u64,
     pub name: Name,
     pub text: Bytes,
 }

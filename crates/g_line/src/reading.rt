@@ -11,9 +11,9 @@ use g_lists::List;
 use g_types::{Bytes, Name, is_name};
 use std::alloc::{AllocError, Global};
 
-/// The setting of a word, cut at its first `=`.
-fn read_setting(alloc: Global, word: &str) -> Result<Option<Setting>, AllocError>
-    ensures { IfOk result (λ read. MatchOption read (IsNoSetting word.now) (IsSettingOf word.now)) }
+/// The setting of the word of this number, cut at its first `=`.
+fn read_setting(alloc: Global, number: u64, word: &str) -> Result<Option<Setting>, AllocError>
+    ensures { IfOk result (λ read. MatchOption read (IsNoSetting word.now) (IsSettingOf number word.now)) }
 {
     let Some((name, text)) = word.split_once('=') else {
         return Ok(None);
@@ -23,7 +23,11 @@ fn read_setting(alloc: Global, word: &str) -> Result<Option<Setting>, AllocError
     }
     let name = Name::from_slice(alloc, name.as_bytes())?;
     let text = Bytes::from_slice(alloc, text.as_bytes())?;
-    Ok(Some(Setting { name, text }))
+    Ok(Some(Setting {
+        word: number,
+        name,
+        text,
+    }))
 }
 
 /// The settings that the words from a place on are.
@@ -38,8 +42,9 @@ fn read_settings(
 {
     let mut settings = Vec::new(alloc);
     for at in first..words.len() {
-        let Some(setting) = read_setting(alloc, words[at].as_str())? else {
-            return Err(LineRefused::Usage(at as u64 + 1));
+        let number = at as u64 + 1;
+        let Some(setting) = read_setting(alloc, number, words[at].as_str())? else {
+            return Err(LineRefused::Usage(number));
         };
         settings.push(setting).map_err(AllocError::from)?;
     }
@@ -188,9 +193,11 @@ mod tests {
             return Ok(());
         };
         assert_eq!(rt; main.as_slice(), b"Main".as_slice());
-        let wanted: [(&[u8], &[u8]); 3] = [(b"a", b"1"), (b"b", b""), (b"a", b"x=y")];
+        let wanted: [(u64, &[u8], &[u8]); 3] =
+            [(3, b"a", b"1"), (4, b"b", b""), (5, b"a", b"x=y")];
         assert_eq!(rt; settings.len(), wanted.len());
-        for (setting, (name, text)) in settings.as_slice().iter().zip(wanted) {
+        for (setting, (word, name, text)) in settings.as_slice().iter().zip(wanted) {
+            assert_eq!(rt; setting.word, word);
             assert_eq!(rt; setting.name.as_slice(), name);
             assert_eq!(rt; setting.text.as_slice(), text);
         }

@@ -1,11 +1,11 @@
 -- Whole answers on small listings, computed: usage, a refused token, `print`, `check` with and without a break, a run and its settings.
 use Rattle.std.proofs.Common.{◌≡◌, inl, inr, ℕ, zero, suc, ◌+◌, ◌==◌, ◌&&◌, ◌||◌, ◌*◌, Bool, true, false, List, [], ◌∷◌, ◌++◌, length, Some, None, pos, refl, ap, sym, subst, ◌∙◌, arith}
 use Rattle.std.proofs.lemmas.Bool.{eqb-true}
-use Rattle.std.specs.Prelude.{codes, slice_get, Err}
+use Rattle.std.specs.Prelude.{codes, slice_get, Ok, Err}
 use Rattle.std.specs.Fmt.{digits}
 use Rattle.std.specs.List.{All, Contains, list_any}
 use Rattle.std.specs.List.Sorted.{IsStrictlySortedBy}
-use Rattle.g_grammar.specs.Grammar.{all_read, read, repeat}
+use Rattle.g_grammar.specs.Grammar.{read, repeat}
 use Rattle.g_grammar.proofs.Laws.{takes}
 use Rattle.g_types.specs.declared.rep.Rep.TheVariants.{I32}
 use Rattle.g_types.proofs.Texts.{texts}
@@ -69,7 +69,7 @@ use Rattle.g_fire.specs.State.{start}
 use Rattle.g_fire.proofs.Compute.{everything}
 use Rattle.g_fire.proofs.LawLemmas.{rest_refuses}
 use Rattle.g_fire.proofs.Words.{i32, number, sketch, only, control, indicator, operation, program_with, same_program, line-number}
-use Rattle.grun.specs.Settings.{Named, Right, given, spelled_value, take_setting, value_read}
+use Rattle.grun.specs.Settings.{Named, Give, IsWrongSetting, controls}
 use Rattle.grun.specs.Answer.{IsAnswer, Runs, reply, usage, syntax, printed, checked_ok, checked_broken, runs, ran, control as wrong_control, broken as run_broken}
 
 -- ---- a listing that doubles the value of its control
@@ -138,7 +138,7 @@ third_is_none = record {
   from = omega arith;
   within = omega arith;
   settings = [];
-  before = record { right = tt; written = refl };
+  before = record { right = tt; each = refl; numbered = tt; written = refl };
   other = λ word is s name same. let third : codes "a" ≡ word = cc in no_sign s.name s.text (third ∙ same);
 }
 
@@ -328,13 +328,13 @@ checks_other = checked_broken other h (absent ∷ []) (record { written = refl; 
 -- ---- `run`
 
 abbrev set : (name text : List ℕ) → List Setting
-set name text = record { name = name; text = text } ∷ []
+set name text = record { word = 3; name = name; text = text } ∷ []
 
 -- the rules come before the settings
 runs_other : IsAnswer (codes "run" ∷ other ∷ codes "b=1" ∷ []) bytes None (reply 3 (codes "Other:0.0 rule 9\n"))
 unfolding digits
 runs_other = runs other (set (codes "b") (codes "1")) h None (reply 3 (codes "Other:0.0 rule 9\n"))
-    (Sets (record { name = codes "b"; text = codes "1" }) ∷ [], record { written = refl; main_is_name = refl; right = (refl, tt); given = refl })
+    (Sets (record { word = 3; name = codes "b"; text = codes "1" }) ∷ [], record { written = refl; main_is_name = refl; right = (refl, tt); numbered = (refl, tt); given = refl })
     (omega arith) is_listing (run_broken (absent ∷ []) one_broken (λ e. absurd cc))
 
 plain : IsPlain h 0
@@ -344,18 +344,26 @@ plain = record { vi = vi_of doubling; stands = refl; nodes = ap (λ n. is_plain_
 no_control : IsAnswer (codes "run" ∷ main ∷ codes "b=1" ∷ []) bytes None (reply 4 (codes "control at word 3\n"))
 unfolding digits plain
 no_control = runs main (set (codes "b") (codes "1")) h None (reply 4 (codes "control at word 3\n"))
-    (Sets (record { name = codes "b"; text = codes "1" }) ∷ [], record { written = refl; main_is_name = refl; right = (refl, tt); given = refl })
-    (omega arith) is_listing (wrong_control plain 0 unbroken refl)
+    (Sets (record { word = 3; name = codes "b"; text = codes "1" }) ∷ [], record { written = refl; main_is_name = refl; right = (refl, tt); numbered = (refl, tt); given = refl })
+    (omega arith) is_listing (wrong_control plain (record { word = 3; name = codes "b"; text = codes "1" }) unbroken unnamed)
+  where
+    unnamed : IsWrongSetting (controls doubling.panel) (set (codes "b") (codes "1")) (record { word = 3; name = codes "b"; text = codes "1" })
+    unnamed = record { before = []; after = []; split = refl; values = []; right = refl; wrong = λ others g. let none = g.1.named in absurd cc }
 
-two_is_read : spelled_value i32 (codes "2") ≡ Some (number (pos 2))
+two_is_read : read (value_texts.values i32) (value_texts.tokens (codes "2")) ≡ Ok (number (pos 2), [])
 unfolding longest characters lexemes value_texts.rest_of
-two_is_read = ap (λ f. value_read (all_read (read (value_texts.of_form f) (value_texts.tokens (codes "2"))))) (form-Num I32)
+two_is_read = ap (λ f. read (value_texts.of_form f) (value_texts.tokens (codes "2"))) (form-Num I32)
 
 abbrev two : Named Value
 two = (codes "a", number (pos 2)) ∷ []
 
-two_is_given : given doubling.panel (set (codes "a") (codes "2")) ≡ Right two
-two_is_given = ap (λ v. take_setting v None (λ x. Right ((codes "a", x) ∷ [])) 0) two_is_read
+two_is_given : Give (controls doubling.panel) [] (set (codes "a") (codes "2")) two
+two_is_given = (
+  number (pos 2),
+  record { type = i32; named = refl; spelled = takes (value_texts.values i32) (value_texts.tokens (codes "2")) (number (pos 2)) [] two_is_read },
+  refl,
+  refl,
+)
 
 -- `add` fires, and then the indicator
 abbrev trace : List Firing
@@ -380,5 +388,5 @@ run_so = record {
 runs_it : IsAnswer (codes "run" ∷ main ∷ codes "a=2" ∷ []) bytes (Some trace) (reply 0 (codes "r = 4\n"))
 unfolding plain lexemes
 runs_it = runs main (set (codes "a") (codes "2")) h (Some trace) (reply 0 (codes "r = 4\n"))
-    (Sets (record { name = codes "a"; text = codes "2" }) ∷ [], record { written = refl; main_is_name = refl; right = (refl, tt); given = refl })
+    (Sets (record { word = 3; name = codes "a"; text = codes "2" }) ∷ [], record { written = refl; main_is_name = refl; right = (refl, tt); numbered = (refl, tt); given = refl })
     (omega arith) is_listing (ran plain two trace (reply 0 (codes "r = 4\n")) unbroken two_is_given run_so)

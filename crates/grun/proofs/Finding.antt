@@ -8,8 +8,7 @@ use Rattle.std.proofs.lemmas.List.{map-append}
 use Rattle.std.proofs.lemmas.Slice.Eq.{bytes_eq-Decides}
 use Rattle.g_types.specs.declared.ty.Ty.{Ty}
 use Rattle.g_values.specs.declared.value.Value.{Value}
-use Rattle.g_line.specs.declared.forms.Setting.{Setting}
-use Rattle.grun.specs.Settings.{Named, Wrong, find, spelled_as, value_for, take_setting, given_from}
+use Rattle.grun.specs.Settings.{Named, find}
 use Rattle.grun.specs.Views.{types_in, values_in}
 
 abbrev pub TypeEntry : Type 0
@@ -70,26 +69,6 @@ types_in-more es e = map-append (λ (e : TypeEntry). (e.0.now, e.1.now)) es (e �
 
 pub values_in-more : (es : List ValueEntry) (e : ValueEntry) → values_in (es ++ e ∷ []) ≡ values_in es ++ (e.0.now, e.1) ∷ []
 values_in-more es e = map-append (λ (e : ValueEntry). (e.0.now, e.1)) es (e ∷ [])
-
--- ---- a setting that has no value, one that was named before, and one more
-
-pub step_none : (cs : Named Ty) (before : Named Value) (k : ℕ) (s : Setting) (ss : List Setting) → value_for cs s ≡ None → given_from cs before k (s ∷ ss) ≡ Wrong k
-step_none cs before k s ss e = ap (λ (r : Option Value). take_setting r (find s.name before) (λ v. given_from cs (before ++ (s.name, v) ∷ []) (k + 1) ss) k) e
-
-pub step_again : (cs : Named Ty) (before : Named Value) (k : ℕ) (s : Setting) (ss : List Setting) (v w : Value) → value_for cs s ≡ Some v → find s.name before ≡ Some w → given_from cs before k (s ∷ ss) ≡ Wrong k
-step_again cs before k s ss v w e f =
-    ap (λ (r : Option Value). take_setting r (find s.name before) (λ v. given_from cs (before ++ (s.name, v) ∷ []) (k + 1) ss) k) e
-    ∙ ap (λ (r : Option Value). take_setting (Some v) r (λ v. given_from cs (before ++ (s.name, v) ∷ []) (k + 1) ss) k) f
-
-pub step_more : (cs : Named Ty) (before : Named Value) (k : ℕ) (s : Setting) (ss : List Setting) (v : Value) → value_for cs s ≡ Some v → find s.name before ≡ None
-    → given_from cs before k (s ∷ ss) ≡ given_from cs (before ++ (s.name, v) ∷ []) (k + 1) ss
-step_more cs before k s ss v e f =
-    ap (λ (r : Option Value). take_setting r (find s.name before) (λ v. given_from cs (before ++ (s.name, v) ∷ []) (k + 1) ss) k) e
-    ∙ ap (λ (r : Option Value). take_setting (Some v) r (λ v. given_from cs (before ++ (s.name, v) ∷ []) (k + 1) ss) k) f
-
--- a setting's value by a list that tells the same types
-pub value_known : (es cs : Named Ty) (s : Setting) → find s.name es ≡ find s.name cs → value_for es s ≡ value_for cs s
-value_known es cs s e = ap (λ t. spelled_as t s.text) e
 
 pub some_of : {A : Type 0} (r : Option A) → is_some r ≡ true → (x : A) × (r ≡ Some x)
 some_of None e = absurd cc

@@ -1,7 +1,10 @@
 pub mod Finding
 pub mod NamesApart
-pub mod Spelled
+pub mod Split
+pub mod Giving
 pub mod Settled
 pub mod Plain
 pub mod Running
+pub mod Ordered
+pub mod Unique
 pub mod Examples

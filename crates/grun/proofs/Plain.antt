@@ -26,7 +26,7 @@ plain_answers words (Some bytes) trace r no_run is = plain_answer words bytes tr
 
 pub plain_found : (words : List (List ℕ)) (left : Option (List ℕ)) (old new : ℕ) (trace : Option (List Firing)) (r : Reply) → IsNoRun words → Found words left old new trace r → Found words left old new None r
 plain_found words left old new trace r no_run (answer is) = answer (plain_answers words left trace r no_run is)
-plain_found words left old new trace r no_run (fault none rose is) = fault refl rose is
+plain_found words left old new trace r no_run (fault line has none rose is) = fault line has refl rose is
 
 -- words that don't begin with `run` are no run
 pub no_run_here : (words : List (List ℕ)) → begins_run words ≡ false → IsNoRun words

@@ -25,6 +25,8 @@ use Rattle.g_fire.specs.Flat.{AreControls}
 use Rattle.g_infer.specs.Answer.{types_in, HasTyping, IsTyped}
 use Rattle.g_infer.specs.declared.typed.Typed.{Typed}
 use Rattle.g_infer.specs.declared.typed.ViTypes.{ViTypes}
+use Rattle.g_valtext.specs.Spellings.{tokens}
+use Rattle.g_valtext.proofs.Kept.{typed, proper}
 use Rattle.g_line.specs.declared.forms.Setting.{Setting}
 use Rattle.g_literals.proofs.TypedValues.{typed_literal}
 use Rattle.g_prims_laws.specs.Laws.{AreOfTypes}
@@ -37,10 +39,10 @@ use Rattle.g_typing.specs.Selected.{unselected}
 use Rattle.g_typing.specs.Types.{Types, place}
 use Rattle.g_typing.specs.Typing.{control_types, called_panel, panel_type, IsTyping}
 use Rattle.grun.specs.Ready.{IsReady}
-use Rattle.grun.specs.Settings.{Named, Given, Wrong, Right, find, spelled_as, value_for, take_setting, given_from, given, own_value, value_or, controls, control_values}
+use Rattle.grun.specs.Settings.{Named, find, IsValueFor, Give, own_value, value_or, controls, control_values}
 use Rattle.grun.proofs.Finding.{or_else, find-append}
 use Rattle.grun.proofs.NamesApart.{AreFirst, left_empty, right_empty, names_apart}
-use Rattle.grun.proofs.Spelled.{spelled_typed, spelled_proper}
+use Rattle.grun.proofs.Giving.{value_type}
 
 -- ---- what settings give
 
@@ -62,10 +64,10 @@ types_spelled (Control other u required own out ∷ items) all name t e =
     by false e spelled more = more e
 types_spelled (Indicator other u input ∷ items) all name t e = types_spelled items (All-tail IsItemSpelled (Indicator other u input) items all) name t e
 
-setting_kept : (cs : Named Ty) → CanBeSpelled cs → (s : Setting) (v : Value) → value_for cs s ≡ Some v → (t : Ty) → find s.name cs ≡ Some t → IsOfType t v
-setting_kept cs all s v e t at =
-    let is = sym (ap (λ o. spelled_as o s.text) at) ∙ e in
-    record { proper = spelled_proper t s.text v is (all s.name t at); of_type = spelled_typed t s.text v is }
+setting_kept : (cs : Named Ty) → CanBeSpelled cs → (s : Setting) (v : Value) → IsValueFor cs s v → (t : Ty) → find s.name cs ≡ Some t → IsOfType t v
+setting_kept cs all s v value t at =
+    let spells = value_type cs s t v at value in
+    record { proper = proper t (tokens s.text) v spells (all s.name t at); of_type = typed t (tokens s.text) v spells }
 
 one_more : (cs : Named Ty) (vs : Named Value) → AreKept cs vs → (key : List ℕ) (w : Value) → ((t : Ty) → find key cs ≡ Some t → IsOfType t w) → AreKept cs (vs ++ (key, w) ∷ [])
 one_more cs vs all key w kept name v e t at = by (find name vs) refl (bytes_eq name key) refl (sym (find-append name vs ((key, w) ∷ [])) ∙ e)
@@ -79,19 +81,10 @@ one_more cs vs all key w kept name v e t at = by (find name vs) refl (bytes_eq n
         subst (IsOfType t) same (kept t (ap (λ n. find n cs) (sym named) ∙ at))
     by None p false q e = let is : None ≡ Some v = ap (λ o. or_else o None) (sym p) ∙ e in absurd cc
 
-right_kept : (cs : Named Ty) → CanBeSpelled cs → (before : Named Value) → AreKept cs before → (k : ℕ) (ss : List Setting) (vs : Named Value) → given_from cs before k ss ≡ Right vs → AreKept cs vs
-right_kept cs all before are k [] vs e = let same : before ≡ vs = cc in subst (AreKept cs) same are
-right_kept cs all before are k (s ∷ ss) vs e =
-    by (value_for cs s) (find s.name before) refl e (λ v is. right_kept cs all (before ++ (s.name, v) ∷ []) (one_more cs before are s.name v is) (k + 1) ss vs)
-  where
-    next : Value → Given
-    next v = given_from cs (before ++ (s.name, v) ∷ []) (k + 1) ss
-
-    by : (o held : Option Value) → value_for cs s ≡ o → take_setting o held next k ≡ Right vs
-        → ((v : Value) → ((t : Ty) → find s.name cs ≡ Some t → IsOfType t v) → next v ≡ Right vs → AreKept cs vs) → AreKept cs vs
-    by None held p e more = absurd cc
-    by (Some v) (Some w) p e more = absurd cc
-    by (Some v) None p e more = more v (setting_kept cs all s v p) e
+right_kept : (cs : Named Ty) → CanBeSpelled cs → (before : Named Value) → AreKept cs before → (ss : List Setting) (vs : Named Value) → Give cs before ss vs → AreKept cs vs
+right_kept cs all before are [] vs g = subst (AreKept cs) g are
+right_kept cs all before are (s ∷ ss) vs g =
+    right_kept cs all (before ++ (s.name, g.0) ∷ []) (one_more cs before are s.name g.0 (setting_kept cs all s g.0 g.1)) ss vs g.3
 
 none_kept : (cs : Named Ty) → AreKept cs []
 none_kept cs name v e t at = absurd cc
@@ -135,10 +128,10 @@ values_right cs vs are panel (Indicator name t input ∷ items) same first all v
 
 -- the values are proper and of the controls' types, where the types can be spelled, names differ and literals are values of their types
 pub panel_right : (panel : List PanelItem) → AreFirst panel panel → All IsItemSpelled panel → (v : ℕ) → panel_mistakes v 1 panel ≡ []
-    → (settings : List Setting) (vs : Named Value) → given panel settings ≡ Right vs → AreOfTypes (control_types panel) (control_values panel vs)
+    → (settings : List Setting) (vs : Named Value) → Give (controls panel) [] settings vs → AreOfTypes (control_types panel) (control_values panel vs)
 panel_right panel first all v right settings vs e =
     let cs = controls panel in
-    values_right cs vs (right_kept cs (types_spelled panel all) [] (none_kept cs) 0 settings vs e) panel panel refl first all v 1 right
+    values_right cs vs (right_kept cs (types_spelled panel all) [] (none_kept cs) settings vs e) panel panel refl first all v 1 right
 
 -- ---- where no rule is broken, literals are values of their types
 
@@ -187,7 +180,7 @@ right_literals h typed types number vi stands = by (slice_get typed.vis number) 
         no_mistake h number vi stands (types_in found.sources) is.typing types.unbroken (panel_mistakes number 1 vi.panel)
         (nodes_mistake (types_in found.sources) number (entries_of vi)) (mistakes_of number 1 vi.panel) refl
 
-pub controls_right : (h : Hierarchy) (main : List ℕ) (number : ℕ) → IsReady h main number → (vi : Vi) → slice_get h.vis number ≡ Some vi → (settings : List Setting) (vs : Named Value) → given vi.panel settings ≡ Right vs
+pub controls_right : (h : Hierarchy) (main : List ℕ) (number : ℕ) → IsReady h main number → (vi : Vi) → slice_get h.vis number ≡ Some vi → (settings : List Setting) (vs : Named Value) → Give (controls vi.panel) [] settings vs
     → AreControls h number (control_values vi.panel vs)
 controls_right h main number ready vi stands settings vs e other at =
     let same : Some vi ≡ Some other = sym stands ∙ at in
@@ -195,15 +188,3 @@ controls_right h main number ready vi stands settings vs e other at =
     let spelled : IsViSpelled vi = subst IsViSpelled (get_or_from_slice_get h.vis number vi vi stands) (ready.spelled number vi (slice_get_within h.vis number vi stands)) in
     subst (λ (v : Vi). AreOfTypes (control_types v.panel) (control_values vi.panel vs)) is
     (panel_right vi.panel (names_apart h main ready.unbroken.wired number vi stands) spelled.panel number (right_literals h ready.typed ready.types number vi stands) settings vs e)
-
--- a wrong setting is one of those that were gone through
-step_within : (next : Value → Given) (value held : Option Value) (k m rest : ℕ) → ((v : Value) → next v ≡ Wrong m → m < (k + 1) + rest) → take_setting value held next k ≡ Wrong m → m < k + suc rest
-step_within next None held k m rest more e = let same : k ≡ m = cc in omega (arith, same)
-step_within next (Some v) (Some w) k m rest more e = let same : k ≡ m = cc in omega (arith, same)
-step_within next (Some v) None k m rest more e = omega (arith, more v e)
-
-pub wrong_within : (cs : Named Ty) (before : Named Value) (k m : ℕ) (settings : List Setting) → given_from cs before k settings ≡ Wrong m → m < k + length settings
-wrong_within cs before k m [] e = absurd cc
-wrong_within cs before k m (s ∷ ss) e =
-    step_within (λ v. given_from cs (before ++ (s.name, v) ∷ []) (k + 1) ss) (value_for cs s) (find s.name before) k m (length ss)
-    (λ v. wrong_within cs (before ++ (s.name, v) ∷ []) (k + 1) m ss) e

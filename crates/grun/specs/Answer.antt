@@ -1,5 +1,5 @@
 -- The answer to words, bytes and the trace of a run: a status and what is written. Its cases stand in the order in which they are looked at.
-use Rattle.std.specs.Prelude.{◌≡◌, ◌≢◌, ℕ, ◌+◌, ◌<◌, ◌≤◌, List, [], ◌++◌, length, Option, Some, None, codes}
+use Rattle.std.specs.Prelude.{◌≡◌, ◌≢◌, ℕ, ◌<◌, ◌≤◌, List, [], ◌++◌, length, Option, Some, None, codes}
 use Rattle.std.specs.Fmt.{decimal}
 use Rattle.g_values.specs.declared.value.Value.{Value}
 use Rattle.g_diagram.specs.declared.place.Break.{Break}
@@ -25,7 +25,7 @@ use Rattle.g_fire.specs.declared.state.End.TheVariants.{Complete}
 use Rattle.g_fire.specs.Run.{after, IsAtRest, end_of}
 use Rattle.g_fire.specs.Print.{print}
 use Rattle.grun.specs.Texts.{line_of, breaks_text, spot_text}
-use Rattle.grun.specs.Settings.{Named, Wrong, Right, given, control_values}
+use Rattle.grun.specs.Settings.{Named, Give, IsWrongSetting, controls, control_values}
 
 pub record Reply : Type 0 where
   pub status : ℕ
@@ -55,11 +55,11 @@ pub data IsRunAnswer (main : List ℕ) (settings : List Setting) (h : Hierarchy)
   broken : (bs : List Break) → ListsEach (IsBreak h main) bs → bs ≢ [] → IsRunAnswer main settings h None (reply 3 (breaks_text main h.vis bs))
   -- MAIN has other nodes than those that run
   other_form : IsUnbroken h main → (IsPlain h (number_of h.vis main) → ⊥) → IsRunAnswer main settings h None (reply 12 (line_of (codes "not built")))
-  -- a setting names no control, or one that was named before, or has no value of its type
-  control : (plain : IsPlain h (number_of h.vis main)) (k : ℕ) → IsUnbroken h main → given plain.vi.panel settings ≡ Wrong k
-      → IsRunAnswer main settings h None (reply 4 (line_of (codes "control at word " ++ decimal (k + 3))))
+  -- a setting names no control, or one that was named before, or spells no value of its type
+  control : (plain : IsPlain h (number_of h.vis main)) (s : Setting) → IsUnbroken h main → IsWrongSetting (controls plain.vi.panel) settings s
+      → IsRunAnswer main settings h None (reply 4 (line_of (codes "control at word " ++ decimal s.word)))
   -- a run
-  ran : (plain : IsPlain h (number_of h.vis main)) (values : Named Value) (trace : List Firing) (r : Reply) → IsUnbroken h main → given plain.vi.panel settings ≡ Right values
+  ran : (plain : IsPlain h (number_of h.vis main)) (values : Named Value) (trace : List Firing) (r : Reply) → IsUnbroken h main → Give (controls plain.vi.panel) [] settings values
       → Runs h (number_of h.vis main) (control_values plain.vi.panel values) trace r → IsRunAnswer main settings h (Some trace) r
 
 -- the answer to words and bytes
@@ -79,3 +79,7 @@ pub data IsAnswer (words : List (List ℕ)) (bytes : List ℕ) : Option (List Fi
   -- they are one, which is run
   runs : (main : List ℕ) (settings : List Setting) (h : Hierarchy) (trace : Option (List Firing)) (r : Reply) → HasLine words (Run main settings) → length bytes ≤ LIMIT → IsListing bytes h → IsRunAnswer main settings h trace r
       → IsAnswer words bytes trace r
+
+-- an answer is one: for the same words, bytes and trace no two replies are right
+abbrev pub AnswersAreOne : Type 0
+AnswersAreOne = (words : List (List ℕ)) (bytes : List ℕ) (trace : Option (List Firing)) (r s : Reply) → IsAnswer words bytes trace r → IsAnswer words bytes trace s → r ≡ s

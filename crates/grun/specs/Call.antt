@@ -1,8 +1,11 @@
 -- What a call does to its source and its sink.
-use Rattle.std.specs.Prelude.{◌≡◌, ℕ, ◌<◌, ◌==◌, Bool, false, ◌||◌, List, [], ◌∷◌, Option, Some, None, take, length, codes, bytes_eq}
+use Rattle.std.specs.Prelude.{◌≡◌, ℕ, ◌<◌, ◌==◌, Bool, false, ◌||◌, List, [], ◌∷◌, ◌++◌, Option, Some, None, take, length, codes, bytes_eq}
+use Rattle.std.specs.Fmt.{decimal}
 use Rattle.std.specs.Io.KnownBytes.{Appends, Keeps}
 use Rattle.g_io.specs.Causes.{Rose}
 use Rattle.g_fire.specs.declared.firing.Firing.{Firing}
+use Rattle.g_line.specs.declared.forms.Line.{Line}
+use Rattle.g_line.specs.Forms.{HasLine}
 use Rattle.grun.specs.Texts.{line_of}
 use Rattle.grun.specs.Answer.{Reply, IsAnswer, reply}
 
@@ -29,10 +32,10 @@ begins_run (word ∷ words) = bytes_eq word (codes "run")
 abbrev pub has_read : ℕ → Bool
 has_read n = (n == 0) || ((n == 2) || ((n == 3) || ((n == 4) || (n == 12))))
 
--- what is answered: the answer, or that the source failed, whose count rose
+-- what is answered: the answer, or, to words that have a line, that the source failed, whose count rose
 pub data Found (words : List (List ℕ)) (left : Option (List ℕ)) (source_old source_new : ℕ) (trace : Option (List Firing)) (r : Reply) : Type 0 where
   answer : Answers words left trace r → Found words left source_old source_new trace r
-  fault : trace ≡ None → Rose source_old source_new → r ≡ reply 7 (line_of read_fault) → Found words left source_old source_new trace r
+  fault : (line : Line) → HasLine words line → trace ≡ None → Rose source_old source_new → r ≡ reply 7 (line_of read_fault) → Found words left source_old source_new trace r
 
 -- how a call ends, and no other way is there: `left` is what the source had left, where it tells it; then come what the sink held and the
 -- counts of faults, of the source and of the sink
@@ -41,3 +44,8 @@ pub data Ending (words : List (List ℕ)) (left before after : Option (List ℕ)
   answered : (r : Reply) → Found words left source_old source_new trace r → Delivers before after sink_old sink_new r status → Ending words left before after source_old source_new sink_old sink_new trace status
   -- for want of memory, with nothing written
   out_of_memory : trace ≡ None → status ≡ 9 → Keeps before after → Ending words left before after source_old source_new sink_old sink_new trace status
+
+-- how a call ends whose words cannot be taken: it says that no line has this word there, or memory is wanting and nothing is written
+pub data Refuses (word : ℕ) (before after : Option (List ℕ)) (old new status : ℕ) : Type 0 where
+  told : Delivers before after old new (reply 1 (line_of (codes "usage at word " ++ decimal word))) status → Refuses word before after old new status
+  untold : status ≡ 9 → Keeps before after → Refuses word before after old new status

@@ -1,4 +1,4 @@
--- What is known of a hierarchy whose main VI runs.
+-- Inner: what is known of a hierarchy whose main VI runs.
 use Rattle.std.specs.Prelude.{ℕ, ◌≡◌, List}
 use Rattle.g_diagram.specs.declared.hierarchy.Hierarchy.{Hierarchy}
 use Rattle.g_rules.specs.Checked.{IsUnbroken}

@@ -1,4 +1,4 @@
--- What is read, seen without where it lies in memory.
+-- Inner: what is read, seen without where it lies in memory.
 use Rattle.std.specs.Prelude.{ℕ, List, map}
 use Rattle.std.specs.Borrow.{Bor}
 use Rattle.g_types.specs.declared.ty.Ty.{Ty}

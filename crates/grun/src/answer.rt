@@ -1,6 +1,6 @@
 //! The answer to a line and a listing.
 
-ghost use Rattle.std.specs.Prelude.{◌≡◌, ◌<◌, ◌≤◌, ◌+◌, List as Row, ℕ, Some, None, length, slice_get, IfOk, codes};
+ghost use Rattle.std.specs.Prelude.{◌≡◌, ◌≤◌, List as Row, ℕ, Some, None, length, slice_get, IfOk, codes};
 ghost use Rattle.g_line.specs.declared.forms.Line.TheVariants.{Check as CheckLine};
 ghost use Rattle.g_line.specs.Forms.{HasLine};
 ghost use Rattle.g_fire.specs.declared.firing.Firing.{Firing};
@@ -73,14 +73,6 @@ pub(crate) fn plain(status: u8, text: Bytes) -> Answer
     }
 }
 
-/// Which word a setting is, from 1: `run` and the name of the main VI stand before the settings.
-fn word_of(place: usize, _settings: &[Setting]) -> u64
-    requires { place < length _settings.now }
-    ensures { result ≡ place + 3 }
-{
-    place as u64 + 3
-}
-
 /// The main VI.
 fn main_vi(h: &Hierarchy, main: u32) -> &Vi
     requires { IsPlain h.now main }
@@ -103,10 +95,7 @@ fn answer_settings<'a>(
     let panel = main_vi(h, linked.main).panel.as_slice();
     let controls = controls(alloc, panel)?;
     match go_through(alloc, &controls, settings)? {
-        Given::Wrong(place) => {
-            let text = numbered(alloc, b"control at word ", word_of(place, settings))?;
-            Ok(plain(4, text))
-        }
+        Given::Wrong(word) => Ok(plain(4, numbered(alloc, b"control at word ", word)?)),
         Given::Right(given) => {
             let values = values(alloc, panel, &given)?;
             run(

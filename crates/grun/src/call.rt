@@ -6,7 +6,7 @@ ghost use Rattle.std.specs.Io.KnownBytes.{IsAtEnd};
 ghost use Rattle.g_line.specs.declared.forms.Line.TheVariants.{Run};
 ghost use Rattle.g_line.specs.declared.forms.Setting.{Setting};
 ghost use Rattle.g_line.specs.Forms.{HasLine};
-ghost use Rattle.grun.specs.Call.{Delivers, Ending, Found, has_read, begins_run};
+ghost use Rattle.grun.specs.Call.{Delivers, Ending, Found, Refuses, has_read, begins_run};
 ghost use Rattle.grun.specs.Answer.{reply};
 
 use crate::answer::{Answer, answer_line, plain};
@@ -107,6 +107,18 @@ pub fn plain_call<S: Source, K: Sink>(
 {
     match answer(alloc, words, source) {
         Ok(answer) => deliver(sink, answer.status, answer.text.as_slice()),
+        Err(_) => 9,
+    }
+}
+
+/// Says of the word of this number, from 1, that no line has it there.
+pub fn refuse_word<K: Sink>(alloc: Global, word: u64, sink: &mut K) -> u8
+    ensures later { K.faults sink.old ≤ K.faults sink.new }
+    ensures kept { K.made_with sink.new ≡ K.made_with sink.old }
+    ensures refused { Refuses word (K.held sink.old) (K.held sink.new) (K.faults sink.old) (K.faults sink.new) result }
+{
+    match numbered(alloc, b"usage at word ", word) {
+        Ok(text) => deliver(sink, 1, text.as_slice()),
         Err(_) => 9,
     }
 }

@@ -1,10 +1,12 @@
 //! What settings say of controls.
 
-ghost use Rattle.std.specs.Prelude.{◌≡◌, ℕ, List as Row, [], ◌∷◌, ◌++◌, IfOk, OnOk};
+ghost use Rattle.std.specs.Prelude.{◌≡◌, ℕ, List as Row, [], ◌∷◌, ◌++◌, IfOk, OnOk, MatchOption};
 ghost use Rattle.std.specs.Option.{option_copied};
-ghost use Rattle.grun.specs.Settings.{controls, control_values, find, spelled_value, value_for, given_from, item_values, own_value, value_or};
+ghost use Rattle.g_values.specs.declared.value.Value.{Value as Item};
+ghost use Rattle.g_valtext.specs.Spellings.{IsSpelling};
+ghost use Rattle.grun.specs.Settings.{controls, control_values, find, IsValueFor, item_values, own_value, value_or};
 ghost use Rattle.grun.specs.Views.{seen_control, seen_controls, types_in, values_in};
-ghost use Rattle.grun.specs.GivenViews.{given_seen};
+ghost use Rattle.grun.specs.GivenViews.{Tells};
 
 use g_diagram::{Lit, PanelItem};
 use g_line::Setting;
@@ -70,16 +72,16 @@ fn types_of<'a>(alloc: Global, controls: &[Control<'a>]) -> Result<Types<'a>, Al
     Ok(types)
 }
 
-/// What the settings give: the place of the first wrong one, or the values of the controls that they
-/// name.
+/// What the settings give: the number of the first wrong one's word, from 1, or the values of the
+/// controls that they name.
 pub(crate) enum Given<'a> {
-    Wrong(usize),
+    Wrong(u64),
     Right(IndexMap<&'a [u8], Value>),
 }
 
 /// The value of a type that a setting's text spells.
 fn spelled_value(alloc: Global, ty: &Ty, text: &[u8]) -> Result<Option<Value>, AllocError>
-    ensures { IfOk result (λ v. v ≡ spelled_value ty.now text.now) }
+    ensures { IfOk result (λ read. MatchOption read ((v : Item) → IsSpelling ty.now text.now v → ⊥) (IsSpelling ty.now text.now)) }
 {
     match read_value(alloc, ty, text) {
         Ok(value) => Ok(Some(value)),
@@ -88,12 +90,13 @@ fn spelled_value(alloc: Global, ty: &Ty, text: &[u8]) -> Result<Option<Value>, A
     }
 }
 
+/// The value that a setting spells for the control that it names.
 fn value_for(
     alloc: Global,
     types: &Types<'_>,
     setting: &Setting,
 ) -> Result<Option<Value>, AllocError>
-    ensures { IfOk result (λ v. v ≡ value_for (types_in types.now.entries) setting.now) }
+    ensures { IfOk result (λ read. MatchOption read ((v : Item) → IsValueFor (types_in types.now.entries) setting.now v → ⊥) (IsValueFor (types_in types.now.entries) setting.now)) }
 {
     match types.get(&setting.name.as_slice()) {
         Some(ty) => spelled_value(alloc, *ty, setting.text.as_slice()),
@@ -107,17 +110,17 @@ pub(crate) fn go_through<'a>(
     controls: &[Control<'a>],
     settings: &'a [Setting],
 ) -> Result<Given<'a>, AllocError>
-    ensures { IfOk result (λ given. given_seen given ≡ given_from (seen_controls controls.now) [] 0 settings.now) }
+    ensures { IfOk result (Tells (seen_controls controls.now) settings.now) }
 {
     let types = types_of(alloc, controls)?;
     let mut values: IndexMap<&'a [u8], Value> = IndexMap::new(alloc);
     for place in 0..settings.len() {
         let setting = &settings[place];
         let Some(value) = value_for(alloc, &types, setting)? else {
-            return Ok(Given::Wrong(place));
+            return Ok(Given::Wrong(setting.word));
         };
         if values.insert(setting.name.as_slice(), value)?.is_some() {
-            return Ok(Given::Wrong(place));
+            return Ok(Given::Wrong(setting.word));
         }
     }
     Ok(Given::Right(values))

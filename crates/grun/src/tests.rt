@@ -60,7 +60,8 @@ fn calls(rt: &HostRuntime, fails: &[u64]) -> Result<CallList, AllocError> {
 }
 
 /// Makes the call with a source that fails at these calls, and a sink that fails at those; compares
-/// the status, what was written, and whether there is a trace.
+/// the status, what was written, and whether there is a trace: a run that comes to its end has one, and
+/// no other call here.
 fn answers(
     rt: &HostRuntime,
     call: (&str, &str),
@@ -73,7 +74,10 @@ fn answers(
     let room = Bytes::from_vec(vec![in rt.alloc(); b'.'; 128]?);
     let mut sink = MemorySink::new(16, calls(rt, fails.1)?, room);
     let outcome = grun_call(rt.alloc(), &words, &mut source, &mut sink);
-    Ok(outcome.status == wanted.0 && sink.written() == wanted.1.as_bytes())
+    let fired = wanted.0 == 0 && call.0.starts_with("run ");
+    Ok(outcome.status == wanted.0
+        && sink.written() == wanted.1.as_bytes()
+        && outcome.trace.is_some() == fired)
 }
 
 #[test]
@@ -132,5 +136,41 @@ fn tells_faults(rt: HostRuntime) -> Result<(), Fail> {
         answers(&rt, call, (no, &[1]), (8, "control at word "))?,
         true
     );
+    Ok(())
+}
+
+/// The panel of the listings of which the nodes alone are told, from line 4 on.
+const PANEL: &str =
+    "glisting 1\nvi Main\ncontrol a i32 -> a\nindicator r i32 <- r\nindicator s i32 <- s\n";
+
+#[test]
+fn checks_types(rt: HostRuntime) -> Result<(), Fail> {
+    let no: &[u64] = &[];
+    let cases = [
+        ("add a a -> r\ninc r -> s\n", 0, "ok\n"),
+        // a truth for a number; a number for a text, so that `s` has no type
+        (
+            "eq a a -> r\nstr_len a -> s\n",
+            3,
+            "Main:2.1 rule 17\nMain:5.1 rule 16\n",
+        ),
+        // an array of one type gives its element to a node before it
+        (
+            "inc e -> r\nindex_array v a -> e\ninitialize a a -> v\ninc a -> s\n",
+            0,
+            "ok\n",
+        ),
+        // a value of another type for a constant, and a text for a number
+        (
+            "const i32 TRUE -> r\nconst str \"1\" -> s\n",
+            3,
+            "Main:3.1 rule 17\nMain:4.0 rule 15\n",
+        ),
+    ];
+    for (nodes, status, wanted) in cases {
+        let listing = format!(in rt.alloc(); "{PANEL}{nodes}end\n")?;
+        let call = ("check Main", listing.as_str());
+        assert_eq!(rt; answers(&rt, call, (no, no), (status, wanted))?, true);
+    }
     Ok(())
 }

@@ -12,7 +12,7 @@ returns-then-is_some c =
     let s = c.args.state.now in
     let steps = c.as_slice-steps.result.now in
     let plan = subst (IsPlan p) (sym c.as_slice-steps.ensures) c.in_ok-steps.ensures in
-    let some = some_can s steps c.least_step.result c.least_step.ensures.some (sym c.is_some.ensures ∙ c.if-is_some.true) in
+    let some = some_can s steps c.able_step.result c.able_step.ensures.some (sym c.is_some.ensures ∙ c.if-is_some.true) in
     sym (end_is p steps plan s c.requires.reached ∙ ap (λ b. ended b (list_all (λ st. is_done s 0 st.line) steps)) some)
 
 pub returns-then-all_done : goal.returns-then-all_done
@@ -21,7 +21,7 @@ returns-then-all_done c =
     let s = c.args.state.now in
     let steps = c.as_slice-steps.result.now in
     let plan = subst (IsPlan p) (sym c.as_slice-steps.ensures) c.in_ok-steps.ensures in
-    let none = none_can s steps c.least_step.result c.least_step.ensures.none (sym c.is_some.ensures ∙ c.if-is_some.false) in
+    let none = none_can s steps c.able_step.result c.able_step.ensures.none (sym c.is_some.ensures ∙ c.if-is_some.false) in
     sym (end_is p steps plan s c.requires.reached ∙ ap (λ b. ended b (list_all (λ st. is_done s 0 st.line) steps)) none ∙ ap (ended false) (sym c.all_done.ensures ∙ c.if-all_done.true))
 
 pub returns : goal.returns
@@ -30,5 +30,5 @@ returns c =
     let s = c.args.state.now in
     let steps = c.as_slice-steps.result.now in
     let plan = subst (IsPlan p) (sym c.as_slice-steps.ensures) c.in_ok-steps.ensures in
-    let none = none_can s steps c.least_step.result c.least_step.ensures.none (sym c.is_some.ensures ∙ c.if-is_some.false) in
+    let none = none_can s steps c.able_step.result c.able_step.ensures.none (sym c.is_some.ensures ∙ c.if-is_some.false) in
     sym (end_is p steps plan s c.requires.reached ∙ ap (λ b. ended b (list_all (λ st. is_done s 0 st.line) steps)) none ∙ ap (ended false) (sym c.all_done.ensures ∙ c.if-all_done.false))

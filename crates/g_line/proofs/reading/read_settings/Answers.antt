@@ -14,6 +14,7 @@ loop-at-preserved c =
     let read = rw c.in-Some.is at c.in_ok-setting.ensures in
     let word = slice_get_read words _ at c.index-words-at.result refl (omega arith) c.index-words-at.is in
     let here : slice_get (map string_bytes words) at ≡ Some (setting_word c.in-Some.setting) =
-    slice_get-map string_bytes words at ∙ ap (option_map string_bytes) word ∙ ap Some (sym c.as_str.ensures.value ∙ read.1) in
+    slice_get-map string_bytes words at ∙ ap (option_map string_bytes) word ∙ ap Some (sym c.as_str.ensures.value ∙ read.2) in
     let pushed : c.push.new.self.items ≡ c.loop-at.settings.items ++ c.in-Some.setting ∷ [] = search rules in
-    subst (AreSettings (map string_bytes words) c.args.first (at + 1)) (sym pushed) (settings_more (map string_bytes words) c.args.first at c.loop-at.settings.items c.in-Some.setting c.loop-at.invariant here read.0)
+    subst (AreSettings (map string_bytes words) c.args.first (at + 1)) (sym pushed)
+    (settings_more (map string_bytes words) c.args.first at c.loop-at.settings.items c.in-Some.setting c.loop-at.invariant read.0 here read.1)

@@ -1,6 +1,7 @@
-use Rattle.std.proofs.Common.{◌≡◌, [], List, Some, sym, ap, subst, ◌∙◌, arith}
+use Rattle.std.proofs.Common.{◌≡◌, [], List, Some, sym, ap, subst, ◌∙◌}
 use Rattle.std.proofs.lemmas.Result.{IfOk-weaker}
 use Rattle.std.specs.List.{All}
+use Rattle.g_types.specs.declared.ty.Ty.{Ty}
 use Rattle.g_values.specs.declared.value.Value.{Value}
 use Rattle.g_values.specs.Proper.{IsProper}
 use Rattle.g_diagram.specs.declared.panel.PanelItem.{PanelItem}
@@ -8,36 +9,28 @@ use Rattle.g_fire.specs.declared.firing.Firing.{Firing}
 use Rattle.g_fire.specs.Flat.{AreControls}
 use Rattle.grun.specs.declared.answer.Answer.{Answer}
 use Rattle.grun.specs.Views.{seen_controls, values_in}
-use Rattle.grun.specs.GivenViews.{given_seen}
-use Rattle.g_types.specs.declared.ty.Ty.{Ty}
-use Rattle.grun.specs.Settings.{Named, Wrong, Right, given_from, given, controls, control_values}
+use Rattle.grun.specs.Settings.{Named, Give, IsWrongSetting, controls, control_values}
 use Rattle.grun.specs.Answer.{reply, Runs, IsRunAnswer}
-use Rattle.grun.proofs.Settled.{wrong_within, controls_right}
+use Rattle.grun.proofs.Settled.{controls_right}
 use Rattle.grun.proofs.Running.{wrong_setting, right_settings}
 use Rattle.grun.proofs.answer.answer_settings.Goals as goal
-
-pub word_of-requires : goal.word_of-requires
-word_of-requires c =
-    let panel = c.main_vi.result.now.panel in
-    let cs : seen_controls c.deref.result.now ≡ controls panel = ap seen_controls c.deref.ensures.value ∙ c.in_ok-controls.ensures ∙ ap controls c.as_slice-panel.ensures in
-    let wrong : given panel c.args.settings.now ≡ Wrong c.in-Wrong.place = ap (λ (ns : Named Ty). given_from ns [] 0 c.args.settings.now) (sym cs) ∙ sym c.in_ok-place.ensures ∙ ap given_seen c.in-Wrong.is in
-    omega (arith, wrong_within (controls panel) [] 0 c.in-Wrong.place c.args.settings.now wrong)
 
 pub returns-in-Wrong : goal.returns-in-Wrong
 returns-in-Wrong c =
     let panel = c.main_vi.result.now.panel in
+    let settings = c.args.settings.now in
     let cs : seen_controls c.deref.result.now ≡ controls panel = ap seen_controls c.deref.ensures.value ∙ c.in_ok-controls.ensures ∙ ap controls c.as_slice-panel.ensures in
-    let wrong : given panel c.args.settings.now ≡ Wrong c.in-Wrong.place = ap (λ (ns : Named Ty). given_from ns [] 0 c.args.settings.now) (sym cs) ∙ sym c.in_ok-place.ensures ∙ ap given_seen c.in-Wrong.is in
-    rw (c.plain.ensures.trace, c.plain.ensures.status, c.plain.ensures.text, c.in_ok-text-in-Wrong.ensures, c.word_of.ensures)
-    (wrong_setting c.args.h.now c.args.main.now c.args.linked.now.main c.requires c.main_vi.result.now c.main_vi.ensures c.args.settings.now c.in-Wrong.place wrong)
+    let told = rw c.in-Wrong.is at c.in_ok-word.ensures in
+    rw (c.plain.ensures.trace, c.plain.ensures.status, c.plain.ensures.text, c.in_ok-numbered-in-Wrong.ensures, told.1)
+    (wrong_setting c.args.h.now c.args.main.now c.args.linked.now.main c.requires c.main_vi.result.now c.main_vi.ensures settings told.0 (subst (λ (ns : Named Ty). IsWrongSetting ns settings told.0) cs told.2))
 
 pub from_list-requires : goal.from_list-requires
 from_list-requires c =
     let vi = c.main_vi.result.now in
     let vs = values_in c.in-Right.given.entries in
     let made : seen_controls c.in_ok-controls.controls.items ≡ controls vi.panel = c.in_ok-controls.ensures ∙ ap controls c.as_slice-panel.ensures in
-    let right : given vi.panel c.args.settings.now ≡ Right vs =
-    ap (λ (ns : Named Ty). given_from ns [] 0 c.args.settings.now) (sym (ap seen_controls c.deref.ensures.value ∙ made)) ∙ sym c.in_ok-place.ensures ∙ ap given_seen c.in-Right.is in
+    let right : Give (controls vi.panel) [] c.args.settings.now vs =
+    subst (λ (ns : Named Ty). Give ns [] c.args.settings.now vs) (ap seen_controls c.deref.ensures.value ∙ made) (rw c.in-Right.is at c.in_ok-word.ensures) in
     let values : c.from_vec.result ≡ control_values vi.panel vs = c.from_vec.ensures ∙ c.in_ok-values-in-Right.ensures ∙ ap (λ (p : List PanelItem). control_values p vs) c.as_slice-panel.ensures in
     let controls = controls_right c.args.h.now c.args.main.now c.args.linked.now.main c.requires vi c.main_vi.ensures c.args.settings.now vs right in
     subst (All IsProper) (sym values) (controls vi c.main_vi.ensures).proper
@@ -47,8 +40,8 @@ run-requires-clause-controls c =
     let vi = c.main_vi.result.now in
     let vs = values_in c.in-Right.given.entries in
     let made : seen_controls c.in_ok-controls.controls.items ≡ controls vi.panel = c.in_ok-controls.ensures ∙ ap controls c.as_slice-panel.ensures in
-    let right : given vi.panel c.args.settings.now ≡ Right vs =
-    ap (λ (ns : Named Ty). given_from ns [] 0 c.args.settings.now) (sym (ap seen_controls c.deref.ensures.value ∙ made)) ∙ sym c.in_ok-place.ensures ∙ ap given_seen c.in-Right.is in
+    let right : Give (controls vi.panel) [] c.args.settings.now vs =
+    subst (λ (ns : Named Ty). Give ns [] c.args.settings.now vs) (ap seen_controls c.deref.ensures.value ∙ made) (rw c.in-Right.is at c.in_ok-word.ensures) in
     let values : c.from_list.result ≡ control_values vi.panel vs = c.from_list.ensures ∙ c.from_vec.ensures ∙ c.in_ok-values-in-Right.ensures ∙ ap (λ (p : List PanelItem). control_values p vs) c.as_slice-panel.ensures in
     subst (AreControls c.args.h.now c.args.linked.now.main) (sym values)
     (controls_right c.args.h.now c.args.main.now c.args.linked.now.main c.requires vi c.main_vi.ensures c.args.settings.now vs right)
@@ -60,8 +53,8 @@ returns c =
     let vi = c.main_vi.result.now in
     let vs = values_in c.in-Right.given.entries in
     let made : seen_controls c.in_ok-controls.controls.items ≡ controls vi.panel = c.in_ok-controls.ensures ∙ ap controls c.as_slice-panel.ensures in
-    let right : given vi.panel c.args.settings.now ≡ Right vs =
-    ap (λ (ns : Named Ty). given_from ns [] 0 c.args.settings.now) (sym (ap seen_controls c.deref.ensures.value ∙ made)) ∙ sym c.in_ok-place.ensures ∙ ap given_seen c.in-Right.is in
+    let right : Give (controls vi.panel) [] c.args.settings.now vs =
+    subst (λ (ns : Named Ty). Give ns [] c.args.settings.now vs) (ap seen_controls c.deref.ensures.value ∙ made) (rw c.in-Right.is at c.in_ok-word.ensures) in
     let values : c.from_list.result ≡ control_values vi.panel vs = c.from_list.ensures ∙ c.from_vec.ensures ∙ c.in_ok-values-in-Right.ensures ∙ ap (λ (p : List PanelItem). control_values p vs) c.as_slice-panel.ensures in
     IfOk-weaker c.run.result
     (λ (a : Answer). (trace : List Firing) × (a.trace ≡ Some trace) × Runs h main c.from_list.result trace (reply a.status a.text))
