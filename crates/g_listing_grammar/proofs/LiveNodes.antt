@@ -12,7 +12,7 @@ use Rattle.g_diagram.specs.declared.node.Node.{Node}
 use Rattle.g_diagram.specs.declared.node.Node.TheVariants as node
 use Rattle.g_tokens.specs.declared.token.Token.{Token}
 use Rattle.g_tokens.specs.declared.token.Token.TheVariants as token
-use Rattle.g_listing_words.specs.Operations.{row_named}
+use Rattle.g_listing_words.specs.Operations.{operation_of}
 use Rattle.g_listing_words.specs.declared.Operation.{Operation}
 use Rattle.g_listing_words.specs.declared.Operation.TheVariants as operation
 use Rattle.g_listing_grammar.specs.declared.NodeWord.{NodeWord}
@@ -217,7 +217,7 @@ live_item begin rest q live t (inr d) e = live_give (inr d)
 
 -- no node begins with `end`, in any version
 end_is_other : (v : ℕ) → node_word v an_end ≡ None
-unfolding row_named
+unfolding operation_of
 end_is_other v = refl
 
 ends_at : {D : Type 0} (v n : ℕ) (q : Option D) (d : D) → q ≡ Some d → either (node_first v n an_end) q ≡ Some (inr d)
