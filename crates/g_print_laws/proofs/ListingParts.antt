@@ -266,6 +266,9 @@ rewritten ts h has good =
           (a_line 0 (codes "glisting") (record { letter = refl; all = refl; short = omega arith }) (record { bound = refl; inside = space plain }));
     }
 
+pub one : (bytes : List ℕ) (h g : Hierarchy) → IsListing bytes h → IsListing bytes g → g ≡ h
+one bytes h g has other = (same listing (tokens_of (placed_tokens bytes)) g h [] [] other has).0
+
 pub reads_back : (bytes : List ℕ) (h : Hierarchy) → IsBytes bytes → IsListing bytes h → IsListing (text.text_of h) h
 reads_back bytes h b has =
     let r = rewritten (tokens_of (placed_tokens bytes)) h has (tokens_good bytes b) in

@@ -14,3 +14,8 @@ pub fn canonical_laws()
     ensures alone { (bytes : List ℕ) (h g : Hierarchy) → IsBytes bytes → IsListing bytes h → IsListing (text_of h) g → g ≡ h }
     ensures differ { (bytes others : List ℕ) (h g : Hierarchy) → IsBytes bytes → IsListing bytes h → IsBytes others → IsListing others g → text_of g ≡ text_of h → g ≡ h }
 {}
+
+/// Each bytes have at most one hierarchy.
+pub fn one_hierarchy()
+    ensures { (bytes : List ℕ) (h g : Hierarchy) → IsListing bytes h → IsListing bytes g → g ≡ h }
+{}
