@@ -1,6 +1,9 @@
 //! The program's own input and output, over std's readers and writers.
 
-ghost use Rattle.std.specs.Prelude.{None};
+ghost use Rattle.std.specs.Prelude.{◌≡◌, ◌<◌, None, length, IfOk};
+ghost use Rattle.std.specs.Io.{ReadsAtMost, WritesAtMost};
+ghost use Rattle.std.specs.Io.KnownBytes.{ReadConsumes, WriteAppends};
+ghost use Rattle.g_io.specs.Causes.{HasCause, IsCounted};
 
 use crate::sink::Sink;
 use crate::source::{Failed, Source};
@@ -15,7 +18,9 @@ pub struct StdinSource<R> {
 
 impl<R: Read> StdinSource<R> {
     /// A source over a reader, with no error counted yet.
-    pub fn new(inner: R) -> Self {
+    pub fn new(inner: R) -> Self
+        ensures faultless { result.faults ≡ 0 }
+    {
         StdinSource { inner, faults: 0 }
     }
 }
@@ -25,7 +30,12 @@ impl<R: Read> Source for StdinSource<R> {
 
     ghost faults = { λ s. s.faults };
 
-    fn read(&mut self, into: &mut [u8]) -> Result<usize, Failed> {
+    fn read(&mut self, into: &mut [u8]) -> Result<usize, Failed>
+        ensures bound { ReadsAtMost result into.new }
+        ensures bytes { ReadConsumes None None result into.new }
+        ensures cause { HasCause self.old.faults self.new.faults result }
+        ensures counted { IsCounted self.old.faults self.new.faults result }
+    {
         match self.inner.read(into) {
             Ok(count) => Ok(count),
             Err(_) => {
@@ -46,7 +56,9 @@ pub struct StdoutSink<W> {
 
 impl<W: Write> StdoutSink<W> {
     /// A sink over a writer, with no error counted yet.
-    pub fn new(inner: W) -> Self {
+    pub fn new(inner: W) -> Self
+        ensures faultless { result.faults ≡ 0 }
+    {
         StdoutSink { inner, faults: 0 }
     }
 }
@@ -58,7 +70,13 @@ impl<W: Write> Sink for StdoutSink<W> {
 
     ghost made_with = { λ _. None };
 
-    fn write(&mut self, piece: &[u8]) -> Result<usize, Failed> {
+    fn write(&mut self, piece: &[u8]) -> Result<usize, Failed>
+        ensures bound { WritesAtMost result piece.now }
+        ensures progress { IfOk result (λ count. 0 < length piece.now → 0 < count) }
+        ensures bytes { WriteAppends None None result piece.now }
+        ensures cause { HasCause self.old.faults self.new.faults result }
+        ensures counted { IsCounted self.old.faults self.new.faults result }
+    {
         if piece.is_empty() {
             return Ok(0);
         }

@@ -8,8 +8,6 @@ mod read;
 mod remainder;
 mod sink;
 mod source;
-#[cfg(test)]
-mod tests;
 mod write;
 
 pub use edge::{StdinSource, StdoutSink};

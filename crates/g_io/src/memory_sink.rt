@@ -3,7 +3,7 @@
 ghost use Rattle.std.specs.Prelude.{◌≡◌, ◌<◌, ◌≤◌, [], Some, length, IfOk};
 ghost use Rattle.std.specs.Io.{WritesAtMost};
 ghost use Rattle.std.specs.Io.KnownBytes.{WriteAppends};
-ghost use Rattle.g_io.specs.Causes.{HasCause};
+ghost use Rattle.g_io.specs.Causes.{HasCause, IsCounted};
 
 use crate::sink::Sink;
 use crate::source::Failed;
@@ -78,6 +78,7 @@ impl Sink for MemorySink {
         ensures progress { IfOk result (λ count. 0 < length piece.now → 0 < count) }
         ensures bytes { WriteAppends (sink_held self.old) (sink_held self.new) result piece.now }
         ensures cause { HasCause (sink_faults self.old) (sink_faults self.new) result }
+        ensures counted { IsCounted (sink_faults self.old) (sink_faults self.new) result }
         ensures kept { sink_made_with self.new ≡ sink_made_with self.old }
         ensures failing { IsErr result ↔ IsWriteFailing self.old }
         ensures next { IsNextWrite self.old self.new result (length piece.now) }

@@ -3,7 +3,7 @@
 ghost use Rattle.std.specs.Prelude.{◌≡◌, ◌<◌, Some, length};
 ghost use Rattle.std.specs.Io.{ReadsAtMost};
 ghost use Rattle.std.specs.Io.KnownBytes.{ReadConsumes};
-ghost use Rattle.g_io.specs.Causes.{HasCause};
+ghost use Rattle.g_io.specs.Causes.{HasCause, IsCounted};
 
 use crate::remainder::Remainder;
 use crate::source::{Failed, Source};
@@ -62,6 +62,7 @@ impl Source for MemorySource {
         ensures bound { ReadsAtMost result into.new }
         ensures bytes { ReadConsumes (source_left self.old) (source_left self.new) result into.new }
         ensures cause { HasCause (source_faults self.old) (source_faults self.new) result }
+        ensures counted { IsCounted (source_faults self.old) (source_faults self.new) result }
         ensures failing { IsErr result ↔ IsReadFailing self.old }
         ensures next { IsNextRead self.old self.new result (length into.old) }
     {

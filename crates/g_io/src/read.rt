@@ -3,7 +3,7 @@
 ghost use Rattle.std.specs.Prelude.{◌+◌, ◌^◌, ◌<◌, ◌≤◌, length, IfOk, OnOk, IsErrOf};
 ghost use Rattle.std.specs.Io.KnownBytes.{IsAtEnd};
 ghost use Rattle.g_io.specs.Causes.{Rose};
-ghost use Rattle.g_io.specs.Reading.{IsAllOf, IsLonger, IsTaken};
+ghost use Rattle.g_io.specs.Reading.{IsAllOf, IsLonger, IsTaken, IsTakenWithin};
 
 use crate::source::Source;
 use g_types::Bytes;
@@ -41,6 +41,7 @@ pub fn read_all<S: Source>(
     ensures ended { OnOk result (IsAtEnd (S.left source.new)) }
 
     ensures fault { IsErrOf result ReadRefused.Fault → Rose (S.faults source.old) (S.faults source.new) }
+    ensures short { IsErrOf result ReadRefused.Fault → IsTakenWithin limit (S.left source.old) (S.left source.new) }
     ensures too_long { IsErrOf result ReadRefused.TooLong → IsLonger (S.left source.old) limit }
     ensures taken { IsErrOf result ReadRefused.TooLong → IsTaken (limit + 1) (S.left source.old) (S.left source.new) }
     ensures later { S.faults source.old ≤ S.faults source.new }

@@ -2,6 +2,8 @@
 use Rattle.std.specs.Prelude.{◌≡◌, ℕ, zero, suc, ◌+◌, ◌*◌, ◌-◌, ◌≤◌, ◌<◌, Bool, true, false, ◌&&◌, ◌||◌, ◌==◌, nat_le, List, [], ◌∷◌, ◌++◌, length, take, map, Option, Some, None, codes, slice_index, ℤ, pos, negsuc, if◌then◌else◌}
 use Rattle.std.specs.List.{list_all}
 use Rattle.std.specs.Str.{bytes_eq}
+use Rattle.g_types.specs.Names.{longest_word}
+pub use Rattle.g_types.specs.Names.{is_letter, is_digit, is_word_byte}
 use Rattle.g_tokens.specs.declared.token.Token.{Token}
 use Rattle.g_tokens.specs.declared.token.Token.TheVariants as token
 use Rattle.g_tokens.specs.declared.token.Mark.{Mark}
@@ -13,16 +15,7 @@ use Rattle.g_tokens.specs.declared.texts.Escape.TheVariants as escape
 use Rattle.g_tokens.specs.declared.texts.Step.{Step}
 use Rattle.g_tokens.specs.declared.texts.Step.TheVariants as step
 
--- ---- bytes
-
-abbrev pub is_letter : ℕ → Bool
-is_letter b = (nat_le 97 b && nat_le b 122) || (nat_le 65 b && nat_le b 90)
-
-abbrev pub is_digit : ℕ → Bool
-is_digit b = nat_le 48 b && nat_le b 57
-
-abbrev pub is_word_byte : ℕ → Bool
-is_word_byte b = is_letter b || is_digit b || b == 95
+-- ---- bytes: letters, digits and what else a word may have are those of names
 
 abbrev pub is_space : ℕ → Bool
 is_space b = b == 32 || b == 9
@@ -38,7 +31,7 @@ abbrev pub is_run : List ℕ → Bool
 is_run w = begins is_letter w && list_all is_word_byte w
 
 abbrev pub word_of : List ℕ → Token
-word_of w = if nat_le (length w) 64 then token.Word w else token.Bad
+word_of w = if nat_le (length w) longest_word then token.Word w else token.Bad
 
 abbrev pub word : List ℕ → Option Token
 word w = if is_run w then Some (word_of w) else None

@@ -7,7 +7,8 @@ ghost use Rattle.g_tokens.specs.Scan.{mark_alone};
 use crate::numbers::number_at;
 use crate::texts::text_at;
 use crate::token::{Mark, Token};
-use crate::words::{is_digit, is_letter, word_at};
+use crate::words::word_at;
+use g_types::{is_digit, is_letter};
 use std::alloc::{AllocError, Global};
 
 /// The mark that a byte is which begins no longer one.

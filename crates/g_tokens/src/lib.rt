@@ -5,8 +5,6 @@
 mod front;
 mod lines;
 mod numbers;
-#[cfg(test)]
-mod tests;
 mod texts;
 mod token;
 mod words;

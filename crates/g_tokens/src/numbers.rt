@@ -5,7 +5,7 @@ ghost use Rattle.std.specs.List.{prefix_len, list_all};
 ghost use Rattle.g_tokens.specs.Tokens.{is_digit, digits_value, numeral};
 
 use crate::token::Token;
-use crate::words::is_digit;
+use g_types::is_digit;
 
 /// How many digits stand at the front.
 fn digits_length(bytes: &[u8]) -> usize

@@ -2,31 +2,12 @@
 
 ghost use Rattle.std.specs.Prelude.{◌≡◌, ◌≤◌, true, length, IfOk};
 ghost use Rattle.std.specs.List.{prefix_len};
-ghost use Rattle.g_tokens.specs.Tokens.{is_letter, is_digit, is_word_byte, begins, IsFront};
+ghost use Rattle.g_tokens.specs.Tokens.{is_letter, is_word_byte, begins, IsFront};
 
 use crate::token::Token;
 use g_lists::List;
+use g_types::{LONGEST_NAME, is_word_byte};
 use std::alloc::{AllocError, Global};
-
-/// Whether a byte is a letter of ASCII.
-pub(crate) fn is_letter(b: u8) -> bool
-    ensures { result ≡ is_letter b }
-{
-    matches!(b, b'a'..=b'z' | b'A'..=b'Z')
-}
-
-/// Whether a byte is a decimal digit.
-pub(crate) fn is_digit(b: u8) -> bool
-    ensures { result ≡ is_digit b }
-{
-    matches!(b, b'0'..=b'9')
-}
-
-fn is_word_byte(b: u8) -> bool
-    ensures { result ≡ is_word_byte b }
-{
-    is_letter(b) || is_digit(b) || b == b'_'
-}
 
 /// How many bytes of a word stand at the front.
 fn word_length(bytes: &[u8]) -> usize
@@ -49,7 +30,7 @@ pub(crate) fn word_at(alloc: Global, bytes: &[u8]) -> Result<(Token, usize), All
     ensures { IfOk result (λ x. IsFront bytes.now x.0 x.1) }
 {
     let length = word_length(bytes);
-    if length > 64 {
+    if length > LONGEST_NAME {
         return Ok((Token::Bad, length));
     }
     let (word, _) = bytes.split_at(length);

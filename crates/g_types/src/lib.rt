@@ -4,11 +4,9 @@
 mod lists;
 mod names;
 mod rep;
-#[cfg(test)]
-mod tests;
 mod ty;
 
 pub use lists::{Bytes, CallList, Name};
-pub use names::{LONGEST_NAME, is_name};
+pub use names::{LONGEST_NAME, is_digit, is_letter, is_name, is_word_byte};
 pub use rep::{Rep, wider, wrap};
 pub use ty::{Ty, TyList, assignable, copy, copy_all, fits, same, type_text};

@@ -7,16 +7,25 @@ ghost use Rattle.g_types.specs.Names as spec;
 /// How many bytes a name has at most.
 pub const LONGEST_NAME: usize = 64;
 
-fn is_letter(byte: u8) -> bool
+/// Whether a byte is a letter of ASCII.
+pub fn is_letter(byte: u8) -> bool
     ensures { result ≡ spec.is_letter byte }
 {
     matches!(byte, b'a'..=b'z' | b'A'..=b'Z')
 }
 
-fn is_word_byte(byte: u8) -> bool
+/// Whether a byte is a decimal digit.
+pub fn is_digit(byte: u8) -> bool
+    ensures { result ≡ spec.is_digit byte }
+{
+    matches!(byte, b'0'..=b'9')
+}
+
+/// Whether a byte may stand in a name: a letter, a digit or an underline.
+pub fn is_word_byte(byte: u8) -> bool
     ensures { result ≡ spec.is_word_byte byte }
 {
-    is_letter(byte) || matches!(byte, b'0'..=b'9' | b'_')
+    is_letter(byte) || is_digit(byte) || byte == b'_'
 }
 
 fn begins_word(bytes: &[u8]) -> bool

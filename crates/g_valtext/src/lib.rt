@@ -10,6 +10,3 @@ mod text;
 
 pub use print::print_value;
 pub use text::{ValueRefused, read_value};
-
-#[cfg(test)]
-mod tests;

@@ -6,8 +6,6 @@ mod elements;
 mod num;
 mod nums;
 mod primitive;
-#[cfg(test)]
-mod tests;
 mod value;
 mod values;
 

@@ -1,6 +1,6 @@
 use Rattle.std.proofs.Common.{true}
 use Rattle.g_values.proofs.ProperLemmas.{proper_bool, proper_num}
-use Rattle.g_values.proofs.tests.a_list_keeps_its_order.Goals as goal
+use Rattle.g_tests_values.proofs.values.a_list_keeps_its_order.Goals as goal
 
 pub push-requires : goal.push-requires
 push-requires g c = proper_bool true

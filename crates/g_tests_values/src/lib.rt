@@ -1,0 +1,12 @@
+//! The tests of the public calls on types, values, primitives and text: one happy path each, with its
+//! answer by hand.
+#![tactic(auto)]
+
+#[cfg(test)]
+mod devices;
+#[cfg(test)]
+mod text;
+#[cfg(test)]
+mod types;
+#[cfg(test)]
+mod values;
