@@ -1,9 +1,13 @@
 -- Operations in the buffer of an input that they take.
-use Rattle.std.specs.Prelude.{ℕ, Bool, true, false, not, List, [], ◌∷◌, ◌++◌, ◌≡◌, ◌<◌, ◌+◌, Some, cond, nat_lt, slice_get, take, drop}
+use Rattle.std.specs.Prelude.{ℕ, Bool, true, false, not, ◌&&◌, ◌||◌, ◌==◌, List, [], ◌∷◌, ◌++◌, ◌≡◌, ◌<◌, ◌+◌, Some, cond, nat_lt, slice_get, take, drop}
 use Rattle.g_types.specs.declared.ty.Ty.{Ty}
 use Rattle.g_values.specs.declared.value.Value.{Value}
 use Rattle.g_values.specs.declared.primitive.Primitive.{Primitive}
-use Rattle.g_values.specs.declared.primitive.Primitive.TheVariants as op
+use Rattle.g_operations.specs.declared.row.Count.{Count}
+use Rattle.g_operations.specs.declared.row.Count.TheVariants.{Exactly, Between, Any}
+use Rattle.g_operations.specs.declared.row.Taken.{Taken}
+use Rattle.g_operations.specs.declared.row.Taken.TheVariants.{Nothing, First, Second, FirstTwo, FirstAndThird, SecondAndThird, FirstArray, All}
+use Rattle.g_operations.specs.Rows.{OperationRow, primitive_row}
 use Rattle.g_prims_definitions.specs.Rows.{row_of}
 use Rattle.g_prims_definitions.specs.Takes.{takes}
 
@@ -27,57 +31,79 @@ input at k = cond (nat_lt k at) k (k + 1)
 abbrev pub ReadsStay : Primitive → ℕ → List Ty → List Value → List Value → Type 0
 ReadsStay p at ts old new = (k : ℕ) → takes p ts (input at k) ≡ false → slice_get new k ≡ slice_get old k
 
--- Where all other inputs are read, the only input is taken, or the first of two, or the
--- second, or the first of three.
+-- Inner: which of the working functions an operation belongs to, by its row.
+
+abbrev pub is_first : Taken → Bool
+is_first Nothing = false
+is_first First = true
+is_first Second = false
+is_first FirstTwo = false
+is_first FirstAndThird = false
+is_first SecondAndThird = false
+is_first FirstArray = false
+is_first All = false
+
+abbrev pub is_first_array : Taken → Bool
+is_first_array Nothing = false
+is_first_array First = false
+is_first_array Second = false
+is_first_array FirstTwo = false
+is_first_array FirstAndThird = false
+is_first_array SecondAndThird = false
+is_first_array FirstArray = true
+is_first_array All = false
+
+abbrev pub is_first_two : Taken → Bool
+is_first_two Nothing = false
+is_first_two First = false
+is_first_two Second = false
+is_first_two FirstTwo = true
+is_first_two FirstAndThird = false
+is_first_two SecondAndThird = false
+is_first_two FirstArray = false
+is_first_two All = false
+
+-- at most one input is taken
+abbrev pub is_single : Taken → Bool
+is_single Nothing = true
+is_single First = true
+is_single Second = true
+is_single FirstTwo = false
+is_single FirstAndThird = false
+is_single SecondAndThird = false
+is_single FirstArray = true
+is_single All = false
+
+abbrev pub is_exactly : ℕ → Count → Bool
+is_exactly n (Exactly k) = n == k
+is_exactly n (Between least most) = false
+is_exactly n Any = false
+
+abbrev pub is_any : Count → Bool
+is_any (Exactly k) = false
+is_any (Between least most) = false
+is_any Any = true
+
+-- the first of n inputs is taken, and one value is given
+abbrev pub takes_first_of : ℕ → OperationRow → Bool
+takes_first_of n r = is_first r.taken && (is_exactly n r.inputs && is_exactly 1 r.outputs)
+
 abbrev pub takes_only : Primitive → Bool
-takes_only op.Inc = true
-takes_only op.Dec = true
-takes_only op.Neg = true
-takes_only op.Abs = true
-takes_only op.Not = true
-takes_only op.ToI8 = true
-takes_only op.ToI16 = true
-takes_only op.ToI32 = true
-takes_only op.ToI64 = true
-takes_only op.ToU8 = true
-takes_only op.ToU16 = true
-takes_only op.ToU32 = true
-takes_only op.ToU64 = true
-takes_only op.Reverse = true
-takes_only op.Sort = true
-takes_only op.StrBytes = true
-takes_only op.BytesStr = true
-takes_only _ = false
-
-abbrev pub takes_second : Primitive → Bool
-takes_second op.Add = true
-takes_second op.Sub = true
-takes_second op.Mul = true
-takes_second op.And = true
-takes_second op.Or = true
-takes_second op.Xor = true
-takes_second _ = false
-
-abbrev pub takes_first : Primitive → Bool
-takes_first op.Concat = true
-takes_first op.StrConcat = true
-takes_first p = takes_second p
+takes_only p = takes_first_of 1 (primitive_row p)
 
 abbrev pub takes_first_of_three : Primitive → Bool
-takes_first_of_three op.Subset = true
-takes_first_of_three op.StrSubset = true
-takes_first_of_three _ = false
+takes_first_of_three p = takes_first_of 3 (primitive_row p)
 
--- both of two inputs are taken
+-- the second of two inputs may be taken, where the first is no array
+abbrev pub takes_second : Primitive → Bool
+takes_second p = is_first_array (primitive_row p).taken
+
+abbrev pub takes_first : Primitive → Bool
+takes_first p = takes_first_of 2 (primitive_row p) || takes_second p
+
 abbrev pub takes_both : Primitive → Bool
-takes_both op.Build = true
-takes_both (op.Set k) = true
-takes_both _ = false
+takes_both p = is_first_two (primitive_row p).taken
 
--- no other input is taken
+-- no other input is taken, and what is given isn't a list
 abbrev pub reads_others : Primitive → Bool
-reads_others op.Select = false
-reads_others op.Replace = false
-reads_others op.Bundle = false
-reads_others op.Unbundle = false
-reads_others p = not (takes_both p)
+reads_others p = is_single (primitive_row p).taken && not (is_any (primitive_row p).outputs)

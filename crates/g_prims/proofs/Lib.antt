@@ -1,3 +1,3 @@
+pub mod Breaks
 pub mod Bundles
 pub mod References
-pub mod Sames

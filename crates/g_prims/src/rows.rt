@@ -2,7 +2,7 @@
 
 ghost use Rattle.std.specs.Prelude.{◌≡◌, IfOk, IfErr, Some};
 ghost use Rattle.g_prims_definitions.specs.Rows as spec;
-ghost use Rattle.g_prims.specs.Refusals.{IsRefusal};
+ghost use Rattle.g_prims.specs.Refusals.{IsBreak, IsRefusal};
 
 use crate::array_rows::{
     build_row, concat_row, delete_row, index_row, initialize_row, replace_row, reverse_row,
@@ -18,17 +18,25 @@ use crate::string_rows::{
     bytes_str_row, num_str_row, str_bytes_row, str_concat_row, str_len_row, str_num_row,
     str_subset_row,
 };
-use g_types::{Rep, TyList};
+use g_types::{Rep, Ty, TyList};
 use g_values::Primitive;
 use std::alloc::Global;
 
-/// The types that the primitive gives for inputs of these types. Where they have no row, the first
-/// input is told with which no row begins; one that is missing counts.
+/// The types that the primitive gives for inputs of these types. Where they have no row, the input is
+/// told at which they break off: some row begins with the types before it, and none with these and its
+/// own; one that is missing counts.
 pub fn type_row(alloc: Global, primitive: &Primitive, ins: &TyList) -> Result<TyList, RowRefused>
+    ensures gives { IfOk result (λ outs. spec.row_of primitive.now ins.now ≡ Some outs) }
+    ensures breaks { IfErr result (IsBreak primitive.now ins.now) }
+    ensures refused { IfErr result (IsRefusal (spec.row primitive.now) ins.now) }
+{
+    row_of(alloc, primitive, ins.as_slice())
+}
+
+fn row_of(alloc: Global, primitive: &Primitive, ins: &[Ty]) -> Result<TyList, RowRefused>
     ensures gives { IfOk result (λ outs. spec.row_of primitive.now ins.now ≡ Some outs) }
     ensures refused { IfErr result (IsRefusal (spec.row primitive.now) ins.now) }
 {
-    let ins = ins.as_slice();
     match primitive {
         Primitive::Add | Primitive::Sub | Primitive::Mul => arithmetic_row(alloc, ins),
         Primitive::Inc | Primitive::Dec | Primitive::Neg | Primitive::Abs => {

@@ -1,6 +1,7 @@
 pub mod Row
 pub mod Kinds
 pub mod Rows
+pub mod Begins
 pub mod Arithmetic
 pub mod Bits
 pub mod Comparisons

@@ -4,3 +4,5 @@ mod NumberRows
 mod ArrayRows
 mod ClusterRows
 pub mod RowOutputs
+pub mod Counts
+pub mod SortOrder

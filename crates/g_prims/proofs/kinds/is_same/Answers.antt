@@ -1,4 +1,4 @@
-use Rattle.g_prims.proofs.Sames.{decided}
+use Rattle.g_prims_definitions.proofs.Sames.{decided}
 use Rattle.g_prims.proofs.kinds.is_same.Goals as goal
 
 pub returns : goal.returns
