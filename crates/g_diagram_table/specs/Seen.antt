@@ -1,11 +1,12 @@
 -- The nodes of the table, as the definitions have them.
 use Rattle.std.specs.Prelude.{map}
+use Rattle.std.specs.Option.{option_map}
 use Rattle.g_diagram.specs.Lines as lines
 use Rattle.g_diagram_table.specs.declared.entry.Arm.{Arm}
 use Rattle.g_diagram_table.specs.declared.entry.Part.{Part}
 use Rattle.g_diagram_table.specs.declared.entry.Entry.{Entry}
 use Rattle.g_diagram_table.specs.declared.entry.Kind.{Kind}
-use Rattle.g_diagram_table.specs.declared.entry.Kind.TheVariants.{Const, Apply, Shows, Shared, Obtain, Read, Write, Call, For, While, Case, Sequence, InPlace}
+use Rattle.g_diagram_table.specs.declared.entry.Kind.TheVariants.{Const, Apply, Shows, Shared, Obtain, Read, Write, Call, Loop, Case, Sequence, InPlace}
 
 abbrev pub seen_arm : Arm → lines.Arm
 seen_arm a = record { selectors = a.selectors.now; gives = a.gives.now; body = a.body }
@@ -22,8 +23,8 @@ seen_kind (Obtain queue size item out) = lines.Obtain queue.now size item.now ou
 seen_kind (Read object out) = lines.Read object.now out.now
 seen_kind (Write object input) = lines.Write object.now input.now
 seen_kind (Call vi inputs outputs) = lines.Call vi.now inputs.now outputs.now
-seen_kind (For count iteration borders body) = lines.For count.now iteration.now borders.now body
-seen_kind (While stop iteration borders body) = lines.While stop.now iteration.now borders.now body
+seen_kind (Loop count stop iteration borders body) =
+    lines.Loop (option_map (λ w. w.now) count) (option_map (λ w. w.now) stop) iteration.now borders.now body
 seen_kind (Case selector borders arms) = lines.Case selector.now borders.now (map seen_arm arms.items)
 seen_kind (Sequence parts) = lines.Sequence (map seen_part parts.items)
 seen_kind (InPlace borders body finish) = lines.InPlace borders.now body finish

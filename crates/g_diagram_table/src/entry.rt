@@ -62,14 +62,11 @@ pub enum Kind<'a> {
         inputs: &'a [Wire],
         outputs: &'a [Wire],
     },
-    For {
-        count: &'a Wire,
-        iteration: &'a Wire,
-        lines: &'a [Tunnel],
-        body: u32,
-    },
-    While {
-        stop: &'a Wire,
+    /// A `for` or `while`: the operand that counts its iterations and the one that stops it, where its
+    /// form has them.
+    Loop {
+        count: Option<&'a Wire>,
+        stop: Option<&'a Wire>,
         iteration: &'a Wire,
         lines: &'a [Tunnel],
         body: u32,
