@@ -15,7 +15,7 @@ use Rattle.g_diagram.specs.declared.node.Node.TheVariants as node
 use Rattle.g_tokens.specs.declared.token.Token.{Token}
 use Rattle.g_tokens.specs.declared.token.Token.TheVariants as token
 use Rattle.g_tokens.specs.declared.token.Mark.TheVariants as mark
-use Rattle.g_listing_words.specs.Operations.{row_named}
+use Rattle.g_listing_words.specs.Operations.{operation_of}
 use Rattle.g_listing_words.specs.declared.Operation.TheVariants as operation
 use Rattle.g_listing_grammar.specs.declared.Border.TheVariants as border
 use Rattle.g_listing_grammar.specs.declared.LineWord.TheVariants as line
@@ -106,7 +106,7 @@ loops (suc n) ts =
 
 -- the 33rd structure is refused at its first word
 deep : read (nodes 1 32 until.End) (loops 33 []) ≡ Err (loops 1 [])
-unfolding node_rest repeat row_named loops
+unfolding node_rest repeat operation_of loops
 deep = refl
 
 -- ---- listings
@@ -116,7 +116,7 @@ head ts = token.Word (codes "glisting") ∷ token.Number (pos 1) ∷ token.Eol �
 
 -- a pool of 65
 pool : read listing (head (token.Word (codes "pool") ∷ token.Number (pos 65) ∷ token.Word (codes "same") ∷ token.Eol ∷ [])) ≡ Err (token.Number (pos 65) ∷ token.Word (codes "same") ∷ token.Eol ∷ [])
-unfolding repeat types literal_rest node_rest row_named head
+unfolding repeat types literal_rest node_rest operation_of head
 pool = refl
 
 -- clones after a system
@@ -144,5 +144,5 @@ increment = record {
 }
 
 accepted : HasHierarchy small increment
-unfolding repeat types literal_rest node_rest row_named head small
+unfolding repeat types literal_rest node_rest operation_of head small
 accepted = takes listing small increment [] refl

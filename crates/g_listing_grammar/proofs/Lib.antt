@@ -1,3 +1,6 @@
+pub mod Completed
+pub mod Good
+pub mod Over
 pub mod Examples
 pub mod LiveBorders
 pub mod LiveListing

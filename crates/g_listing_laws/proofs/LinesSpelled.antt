@@ -21,7 +21,7 @@ use Rattle.g_diagram.specs.Lines.{Wire, Lines, Entry, Kind, Shows, entry, one_li
 use Rattle.g_diagram.specs.Lines as kind
 use Rattle.g_diagram.proofs.LineLemmas.{diagram_lines, branch_lines, frame_lines, case_lines, sequence_lines}
 use Rattle.g_diagram.proofs.LineLemmas as by
-use Rattle.g_listing_laws.specs.Spelled.{IsKindSpelled}
+use Rattle.g_listing_laws.specs.Spelled.{IsQueueSize, IsLineSpelled, IsKindSpelled}
 
 abbrev IsEntrySpelled : Entry → Type 0
 IsEntrySpelled e = IsKindSpelled e.kind
@@ -100,9 +100,9 @@ pub spelled-Shared : (op : SharedOp) (inputs outputs : List Wire) → IsNodeSpel
 spelled-Shared op inputs outputs =
     by_lines (node.Shared op inputs outputs) (one_line (kind.Shared op inputs outputs)) (by.lines-Shared op inputs outputs) (one_spelled (kind.Shared op inputs outputs) tt)
 
-pub spelled-Obtain : (queue : List ℕ) (size : ℤ) (item : Ty) (out : Wire) → IsNodeSpelled (node.Obtain queue size item out)
-spelled-Obtain queue size item out =
-    by_lines (node.Obtain queue size item out) (one_line (kind.Obtain queue size item out)) (by.lines-Obtain queue size item out) (one_spelled (kind.Obtain queue size item out) tt)
+pub spelled-Obtain : (queue : List ℕ) (size : ℤ) (item : Ty) (out : Wire) → IsQueueSize size → IsSpelled item → IsNodeSpelled (node.Obtain queue size item out)
+spelled-Obtain queue size item out fits is =
+    by_lines (node.Obtain queue size item out) (one_line (kind.Obtain queue size item out)) (by.lines-Obtain queue size item out) (one_spelled (kind.Obtain queue size item out) (fits, is))
 
 pub spelled-Read : (object : List ℕ) (out : Wire) → IsNodeSpelled (node.Read object out)
 spelled-Read object out = by_lines (node.Read object out) (one_line (kind.Read object out)) (by.lines-Read object out) (one_spelled (kind.Read object out) tt)
@@ -114,22 +114,22 @@ pub spelled-Call : (vi : List ℕ) (inputs outputs : List Wire) → IsNodeSpelle
 spelled-Call vi inputs outputs =
     by_lines (node.Call vi inputs outputs) (one_line (kind.Call vi inputs outputs)) (by.lines-Call vi inputs outputs) (one_spelled (kind.Call vi inputs outputs) tt)
 
-pub spelled-For : (count iteration : Wire) (ts : List Tunnel) (body : Diagram) → IsBodySpelled body → IsNodeSpelled (node.For count iteration ts body)
-spelled-For count iteration ts body a =
-    let k = λ (b finish : ℕ). kind.For count iteration ts b in
+pub spelled-For : (count iteration : Wire) (ts : List Tunnel) (body : Diagram) → All IsLineSpelled ts → IsBodySpelled body → IsNodeSpelled (node.For count iteration ts body)
+spelled-For count iteration ts body all a =
+    let k = λ (b finish : ℕ). kind.Loop (Some count) None iteration ts b in
     by_lines (node.For count iteration ts body) (loop_lines ts (diagram_lines body) k) (by.lines-For count iteration ts body)
-    (loop_spelled ts (diagram_lines body) k (λ b f. tt) (body_spelled body a))
+    (loop_spelled ts (diagram_lines body) k (λ b f. all) (body_spelled body a))
 
-pub spelled-While : (stop iteration : Wire) (ts : List Tunnel) (body : Diagram) → IsBodySpelled body → IsNodeSpelled (node.While stop iteration ts body)
-spelled-While stop iteration ts body a =
-    let k = λ (b finish : ℕ). kind.While stop iteration ts b in
+pub spelled-While : (stop iteration : Wire) (ts : List Tunnel) (body : Diagram) → All IsLineSpelled ts → IsBodySpelled body → IsNodeSpelled (node.While stop iteration ts body)
+spelled-While stop iteration ts body all a =
+    let k = λ (b finish : ℕ). kind.Loop None (Some stop) iteration ts b in
     by_lines (node.While stop iteration ts body) (loop_lines ts (diagram_lines body) k) (by.lines-While stop iteration ts body)
-    (loop_spelled ts (diagram_lines body) k (λ b f. tt) (body_spelled body a))
+    (loop_spelled ts (diagram_lines body) k (λ b f. all) (body_spelled body a))
 
-pub spelled-InPlace : (ts : List Tunnel) (body : Diagram) → IsBodySpelled body → IsNodeSpelled (node.InPlace ts body)
-spelled-InPlace ts body a =
+pub spelled-InPlace : (ts : List Tunnel) (body : Diagram) → All IsLineSpelled ts → IsBodySpelled body → IsNodeSpelled (node.InPlace ts body)
+spelled-InPlace ts body all a =
     by_lines (node.InPlace ts body) (loop_lines ts (diagram_lines body) (kind.InPlace ts)) (by.lines-InPlace ts body)
-    (loop_spelled ts (diagram_lines body) (kind.InPlace ts) (λ b f. tt) (body_spelled body a))
+    (loop_spelled ts (diagram_lines body) (kind.InPlace ts) (λ b f. all) (body_spelled body a))
 
 pub spelled-Case : (selector : Wire) (ts : List Tunnel) (bs : List Branch) → All IsBranchSpelled bs → IsNodeSpelled (node.Case selector ts bs)
 spelled-Case selector ts bs a =

@@ -1,5 +1,5 @@
 -- The types of the VIs that a listing has.
-use Rattle.std.proofs.Common.{ℕ, Bool, true, false, List, [], ◌∷◌, inl, inr, ◌⊎◌}
+use Rattle.std.proofs.Common.{ℕ, ◌≤◌, Bool, true, false, List, [], ◌∷◌, inl, inr, ◌⊎◌}
 use Rattle.std.specs.Prelude.{Option, Some, None}
 use Rattle.std.specs.List.{All}
 use Rattle.std.proofs.lemmas.List.Elements.{All-nil, All-cons}
@@ -7,6 +7,10 @@ use Rattle.g_grammar.specs.Grammar.{or_else}
 use Rattle.g_types.specs.declared.ty.Ty.{Ty}
 use Rattle.g_values.specs.Spelled.{IsSpelled}
 use Rattle.g_diagram.specs.declared.panel.PanelItem.TheVariants as panel
+use Rattle.g_diagram.specs.declared.hierarchy.Clones.{Clones}
+use Rattle.g_diagram.specs.declared.hierarchy.Clones.TheVariants as clones
+use Rattle.g_diagram.specs.declared.hierarchy.System.{System}
+use Rattle.g_diagram.specs.declared.hierarchy.System.TheVariants as system
 use Rattle.g_diagram.specs.declared.node.Node.{Node}
 use Rattle.g_diagram.specs.declared.hierarchy.Vi.{Vi}
 use Rattle.g_tokens.specs.Tokens.{placed_tokens, tokens_of}
@@ -15,12 +19,16 @@ use Rattle.g_listing_grammar.specs.declared.PanelWord.{PanelWord}
 use Rattle.g_listing_grammar.specs.declared.PanelWord.TheVariants as panel_word
 use Rattle.g_listing_grammar.specs.declared.ControlMark.{ControlMark}
 use Rattle.g_listing_grammar.specs.declared.ControlMark.TheVariants as control
-use Rattle.g_listing_grammar.specs.Listing.{default_rest, control_rest, panel_rest, Begin, body_first, body_item, nodes_after, vi_rest, vi_word, at_end, vi_or_end, vis, listing}
-use Rattle.g_listing_laws.specs.Spelled.{IsItemSpelled, IsViSpelled, AreSpelled, ReadsSpelled}
-use Rattle.g_listing_laws.proofs.Gives.{Gives, Either, gives_give, gives_bind, gives_after, gives_loop}
+use Rattle.g_listing_grammar.specs.declared.ClonesWord.TheVariants as clones_word
+use Rattle.g_listing_grammar.specs.declared.HeaderWord.{HeaderWord}
+use Rattle.g_listing_grammar.specs.declared.HeaderWord.TheVariants as header
+use Rattle.g_listing_grammar.specs.Listing.{Kind, system_end, after_clones, kind_rest, default_rest, control_rest, panel_rest, Begin, body_first, body_item, nodes_after, vi_rest, vi_word, at_end, vi_or_end, vis, listing}
+use Rattle.g_listing_laws.specs.Spelled.{IsPoolSize, IsItemSpelled, IsViSpelled, AreSpelled, ReadsSpelled}
+use Rattle.g_listing_laws.proofs.Gives.{Gives, Either, gives_give, gives_take, gives_bind, gives_after, gives_loop}
 use Rattle.g_listing_laws.proofs.TypesGiven.{type_given}
 use Rattle.g_listing_laws.proofs.LinesSpelled.{IsNodeSpelled, constants_spelled}
-use Rattle.g_listing_laws.proofs.NodesGiven.{Whatever, node_given, nodes_given}
+use Rattle.g_listing_laws.proofs.BordersGiven.{Whatever, pool_known}
+use Rattle.g_listing_laws.proofs.NodesGiven.{node_given, nodes_given}
 
 -- ---- the panel
 
@@ -37,6 +45,25 @@ panel_given : (w : PanelWord) → Gives IsItemSpelled (panel_rest w)
 panel_given panel_word.Control = gives_after λ n. gives_bind type_given λ t is. gives_after (control_given n t is)
 panel_given panel_word.Indicator = gives_after λ n. gives_bind type_given λ t is. gives_after λ x. gives_after λ i. gives_give (panel.Indicator n t i) is
 
+-- ---- the header
+
+abbrev HasPoolSize : Kind → Type 0
+HasPoolSize k = IsPoolSize k.0
+
+system_given : (c : Clones) → IsPoolSize c → (s : Option System) → Gives HasPoolSize (system_end c s)
+system_given c size (Some s) = gives_after λ e. gives_give (c, s) size
+system_given c size None = gives_give (c, system.Same) size
+
+clones_given : (c : Clones) → IsPoolSize c → Gives HasPoolSize (after_clones c)
+clones_given c size = gives_after (system_given c size)
+
+kind_given : (h : HeaderWord) → Gives HasPoolSize (kind_rest h)
+kind_given (header.Clones clones_word.NonReentrant) = clones_given clones.NonReentrant tt
+kind_given (header.Clones clones_word.Preallocated) = clones_given clones.Preallocated tt
+kind_given (header.Clones clones_word.Pool) = gives_bind {Q = λ n. (1 ≤ n) × (n ≤ 64)} (gives_take pool_known) λ n size. clones_given (clones.Pool n) size
+kind_given (header.System s) = system_given clones.NonReentrant tt (Some s)
+kind_given header.Eol = gives_give (clones.NonReentrant, system.Same) tt
+
 -- ---- VIs
 
 abbrev IsFirstSpelled : Option Node → Type 0
@@ -52,18 +79,18 @@ after_given : (v : ℕ) (n : Option Node) → IsFirstSpelled n → Gives (All Is
 after_given v None is = gives_give [] (All-nil IsNodeSpelled)
 after_given v (Some n) is = gives_bind (nodes_given v 32 until.End) λ ns e. gives_give (n ∷ ns.0) (All-cons IsNodeSpelled n ns.0 is e.all)
 
-vi_spelled : (vi : Vi) → All IsItemSpelled vi.panel → All IsNodeSpelled vi.top.nodes → IsViSpelled vi
-vi_spelled vi items ns = record { panel = items; constants = constants_spelled vi ns }
+vi_spelled : (vi : Vi) → IsPoolSize vi.clones → All IsItemSpelled vi.panel → All IsNodeSpelled vi.top.nodes → IsViSpelled vi
+vi_spelled vi size items ns = record { clones = size; panel = items; constants = constants_spelled vi ns }
 
 vi_given : (v : ℕ) → Gives IsViSpelled (vi_rest v)
 vi_given v =
     gives_after λ n.
-    gives_after λ k.
+    gives_bind (gives_after kind_given) λ k size.
     gives_bind (gives_loop IsItemSpelled IsFirstSpelled (body_first v) (body_item v) (item_given v)) λ items e.
     gives_bind (after_given v items.1 e.last) λ ns a.
     gives_after λ end.
     let vi : Vi = record { name = n; clones = k.0; system = k.1; panel = items.0; top = record { nodes = ns } } in
-    gives_give vi (vi_spelled vi e.all a)
+    gives_give vi (vi_spelled vi size e.all a)
 
 -- ---- listings
 

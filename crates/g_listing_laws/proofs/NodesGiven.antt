@@ -1,5 +1,5 @@
 -- The constants of the nodes that a listing has.
-use Rattle.std.proofs.Common.{ℕ, zero, suc, Bool, true, false, List, [], ◌∷◌, Option, inl, inr, ◌⊎◌}
+use Rattle.std.proofs.Common.{ℕ, zero, suc, Bool, true, false, List, [], ◌∷◌, Option, inl, inr, ◌⊎◌, codes}
 use Rattle.std.specs.List.{All}
 use Rattle.std.proofs.lemmas.List.Elements.{All-nil, All-cons, All-append}
 use Rattle.g_grammar.specs.Grammar.{Grammar, or_else}
@@ -25,12 +25,10 @@ use Rattle.g_listing_grammar.specs.declared.SelectorFirst.{SelectorFirst}
 use Rattle.g_listing_grammar.specs.Words.{word_in, eol}
 use Rattle.g_listing_grammar.specs.Nodes.{selector_first, results, and_last, ends_of, Inside, more_or_end, branch_rest, frame_rest, further_frames, node_first, node_or_end, lines_and_body, operation_rest, plain_rest, structure_rest, nodes_of, node_rest, nodes}
 use Rattle.g_listing_laws.proofs.Gives.{Gives, Either, Ended, gives_give, gives_take, gives_bind, gives_after, gives_loop}
+use Rattle.g_listing_laws.specs.Spelled.{IsQueueSize, IsLineSpelled}
 use Rattle.g_listing_laws.proofs.TypesGiven.{type_given}
+use Rattle.g_listing_laws.proofs.BordersGiven.{Whatever, queue_known, lines_given}
 use Rattle.g_listing_laws.proofs.LinesSpelled.{IsNodeSpelled, IsBranchSpelled, IsFrameSpelled, spelled-Const, spelled-Apply, spelled-Shared, spelled-Obtain, spelled-Read, spelled-Write, spelled-Call, spelled-For, spelled-While, spelled-InPlace, spelled-Case, spelled-Sequence}
-
--- of what nothing is to be known
-abbrev pub Whatever : {D : Type 0} → D → Type 0
-Whatever d = Unit {0}
 
 -- the diagrams inside a structure
 abbrev pub AreGiven : Inside → Type 0
@@ -76,25 +74,35 @@ operation_given (operation.Shared s) = gives_after λ w. gives_give (node.Shared
 plain_given : (w : PlainWord) → Gives IsNodeSpelled (plain_rest w)
 plain_given plain.Const = gives_bind type_given λ t is. gives_after λ l. gives_after λ o. gives_give (node.Const t l o) (spelled-Const t l o is)
 plain_given (plain.Operation o) = operation_given o
-plain_given plain.Obtain = gives_after λ q. gives_after λ n. gives_after λ t. gives_after λ o. gives_give (node.Obtain q n t o) (spelled-Obtain q n t o)
+plain_given plain.Obtain =
+    gives_after λ q.
+    gives_bind {Q = IsQueueSize} (gives_take queue_known) λ n fits.
+    gives_bind type_given λ t is.
+    gives_after λ o.
+    gives_give (node.Obtain q n t o) (spelled-Obtain q n t o fits is)
 plain_given plain.Read = gives_after λ n. gives_after λ o. gives_give (node.Read n o) (spelled-Read n o)
 plain_given plain.Write = gives_after λ n. gives_after λ i. gives_give (node.Write n i) (spelled-Write n i)
 plain_given plain.Call = gives_after λ n. gives_after λ w. gives_give (node.Call n w.0 w.1) (spelled-Call n w.0 w.1)
 
 -- ---- structures
 
-abbrev HasBody : List Tunnel × List Node → Type 0
-HasBody b = All IsNodeSpelled b.1
+record HasBody (b : List Tunnel × List Node) : Type 0 where
+  lines : All IsLineSpelled b.0
+  nodes : All IsNodeSpelled b.1
 
 body_given : (inside : Inside) → AreGiven inside → (b : Border) → Gives HasBody (lines_and_body inside b)
 body_given inside given b =
-    gives_after λ lines. gives_after λ d. gives_bind (given until.End) λ ns e. gives_after λ end. gives_give (lines.0, ns.0) e.all
+    gives_bind (lines_given b (codes "do")) λ lines l.
+    gives_after λ d.
+    gives_bind (given until.End) λ ns e.
+    gives_after λ end.
+    gives_give (lines.0, ns.0) (record { lines = l.all; nodes = e.all })
 
 structure_given : (v : ℕ) (inside : Inside) → AreGiven inside → (w : StructureWord) → Gives IsNodeSpelled (structure_rest v inside w)
 structure_given v inside given structure.For =
-    gives_after λ w. gives_bind (body_given inside given border.For) λ b a. gives_give (node.For w.0 w.1 b.0 (record { nodes = b.1 })) (spelled-For w.0 w.1 b.0 (record { nodes = b.1 }) a)
+    gives_after λ w. gives_bind (body_given inside given border.For) λ b a. gives_give (node.For w.0 w.1 b.0 (record { nodes = b.1 })) (spelled-For w.0 w.1 b.0 (record { nodes = b.1 }) a.lines a.nodes)
 structure_given v inside given structure.While =
-    gives_after λ w. gives_bind (body_given inside given border.While) λ b a. gives_give (node.While w.0 w.1 b.0 (record { nodes = b.1 })) (spelled-While w.0 w.1 b.0 (record { nodes = b.1 }) a)
+    gives_after λ w. gives_bind (body_given inside given border.While) λ b a. gives_give (node.While w.0 w.1 b.0 (record { nodes = b.1 })) (spelled-While w.0 w.1 b.0 (record { nodes = b.1 }) a.lines a.nodes)
 structure_given v inside given structure.Case =
     gives_after λ w.
     gives_after λ lines.
@@ -107,7 +115,7 @@ structure_given v inside given structure.Sequence =
     gives_bind (frames_given inside given f is) λ frames a.
     gives_give (node.Sequence frames) (spelled-Sequence frames a)
 structure_given v inside given structure.InPlace =
-    gives_after λ e. gives_bind (body_given inside given border.InPlace) λ b a. gives_give (node.InPlace b.0 (record { nodes = b.1 })) (spelled-InPlace b.0 (record { nodes = b.1 }) a)
+    gives_after λ e. gives_bind (body_given inside given border.InPlace) λ b a. gives_give (node.InPlace b.0 (record { nodes = b.1 })) (spelled-InPlace b.0 (record { nodes = b.1 }) a.lines a.nodes)
 
 -- ---- levels
 

@@ -1,10 +1,12 @@
-//! That the types in a listing are types of values that a listing can write.
+//! That the types and numbers in a listing are such as a listing can write.
 #![tactic(auto)]
 
 ghost use Rattle.g_listing_laws.specs.Spelled.{ReadsSpelled};
 
-/// Each type of a panel object and of a constant that a listing has is at most 8 deep, with arrays of no
-/// arrays and clusters of 1 to 64 elements.
+/// In a hierarchy that a listing has, the types of panel objects, constants, registers without an
+/// initial wire and queues are at most 8 deep, with arrays of no arrays and clusters of 1 to 64
+/// elements; a pool has 1 to 64 data spaces, a queue -1 or 1 to 1,000,000 places, and a `field` line
+/// names one of the elements 0 to 63.
 pub fn spelled_laws()
     ensures { ReadsSpelled }
 {}

@@ -1,13 +1,11 @@
-//! The words of operations, in one table that the reader and the printer of listings look up.
+//! The words of operations, as the rows of operations have them.
 #![tactic(auto)]
 
 ghost use Rattle.std.specs.Prelude.{◌≡◌};
-ghost use Rattle.g_listing_words.specs.Operations.{lookup, rows_of, row_named, operation_named};
+ghost use Rattle.g_operations.specs.Rows.{seen_row};
+ghost use Rattle.g_listing_words.specs.Operations.{lookup, operation_row, words_of, operation_of, operation_named, AreNamed};
 
-#[cfg(test)]
-mod tests;
-
-use g_diagram::SharedOp;
+use g_operations::{Row, SharedOp, primitive_row, shared_row};
 use g_values::Primitive;
 
 /// An operation as a line names it: `get` and `set` are followed by the number of an element.
@@ -20,476 +18,116 @@ pub enum Operation {
     Shared(SharedOp),
 }
 
-/// An operation and the least version of listings that has it.
-#[derive(Clone, Copy, Debug, PartialEq, Eq)]
-pub struct Known {
-    pub since: u32,
-    pub operation: Operation,
-}
-
-/// The words of all operations.
-pub static OPERATIONS: [(&[u8], Known); 62] = [
-    (
-        b"add",
-        Known {
-            since: 1,
-            operation: Operation::Apply(Primitive::Add),
-        },
-    ),
-    (
-        b"sub",
-        Known {
-            since: 1,
-            operation: Operation::Apply(Primitive::Sub),
-        },
-    ),
-    (
-        b"mul",
-        Known {
-            since: 1,
-            operation: Operation::Apply(Primitive::Mul),
-        },
-    ),
-    (
-        b"inc",
-        Known {
-            since: 1,
-            operation: Operation::Apply(Primitive::Inc),
-        },
-    ),
-    (
-        b"dec",
-        Known {
-            since: 1,
-            operation: Operation::Apply(Primitive::Dec),
-        },
-    ),
-    (
-        b"neg",
-        Known {
-            since: 1,
-            operation: Operation::Apply(Primitive::Neg),
-        },
-    ),
-    (
-        b"abs",
-        Known {
-            since: 1,
-            operation: Operation::Apply(Primitive::Abs),
-        },
-    ),
-    (
-        b"quotrem",
-        Known {
-            since: 1,
-            operation: Operation::Apply(Primitive::QuotRem),
-        },
-    ),
-    (
-        b"max_min",
-        Known {
-            since: 1,
-            operation: Operation::Apply(Primitive::MaxMin),
-        },
-    ),
-    (
-        b"and",
-        Known {
-            since: 1,
-            operation: Operation::Apply(Primitive::And),
-        },
-    ),
-    (
-        b"or",
-        Known {
-            since: 1,
-            operation: Operation::Apply(Primitive::Or),
-        },
-    ),
-    (
-        b"xor",
-        Known {
-            since: 1,
-            operation: Operation::Apply(Primitive::Xor),
-        },
-    ),
-    (
-        b"not",
-        Known {
-            since: 1,
-            operation: Operation::Apply(Primitive::Not),
-        },
-    ),
-    (
-        b"shift",
-        Known {
-            since: 1,
-            operation: Operation::Apply(Primitive::Shift),
-        },
-    ),
-    (
-        b"to_i8",
-        Known {
-            since: 1,
-            operation: Operation::Apply(Primitive::ToI8),
-        },
-    ),
-    (
-        b"to_i16",
-        Known {
-            since: 1,
-            operation: Operation::Apply(Primitive::ToI16),
-        },
-    ),
-    (
-        b"to_i32",
-        Known {
-            since: 1,
-            operation: Operation::Apply(Primitive::ToI32),
-        },
-    ),
-    (
-        b"to_i64",
-        Known {
-            since: 1,
-            operation: Operation::Apply(Primitive::ToI64),
-        },
-    ),
-    (
-        b"to_u8",
-        Known {
-            since: 1,
-            operation: Operation::Apply(Primitive::ToU8),
-        },
-    ),
-    (
-        b"to_u16",
-        Known {
-            since: 1,
-            operation: Operation::Apply(Primitive::ToU16),
-        },
-    ),
-    (
-        b"to_u32",
-        Known {
-            since: 1,
-            operation: Operation::Apply(Primitive::ToU32),
-        },
-    ),
-    (
-        b"to_u64",
-        Known {
-            since: 1,
-            operation: Operation::Apply(Primitive::ToU64),
-        },
-    ),
-    (
-        b"bool_int",
-        Known {
-            since: 1,
-            operation: Operation::Apply(Primitive::BoolInt),
-        },
-    ),
-    (
-        b"eq",
-        Known {
-            since: 1,
-            operation: Operation::Apply(Primitive::Eq),
-        },
-    ),
-    (
-        b"ne",
-        Known {
-            since: 1,
-            operation: Operation::Apply(Primitive::Ne),
-        },
-    ),
-    (
-        b"lt",
-        Known {
-            since: 1,
-            operation: Operation::Apply(Primitive::Lt),
-        },
-    ),
-    (
-        b"le",
-        Known {
-            since: 1,
-            operation: Operation::Apply(Primitive::Le),
-        },
-    ),
-    (
-        b"gt",
-        Known {
-            since: 1,
-            operation: Operation::Apply(Primitive::Gt),
-        },
-    ),
-    (
-        b"ge",
-        Known {
-            since: 1,
-            operation: Operation::Apply(Primitive::Ge),
-        },
-    ),
-    (
-        b"select",
-        Known {
-            since: 1,
-            operation: Operation::Apply(Primitive::Select),
-        },
-    ),
-    (
-        b"all",
-        Known {
-            since: 1,
-            operation: Operation::Apply(Primitive::All),
-        },
-    ),
-    (
-        b"any",
-        Known {
-            since: 1,
-            operation: Operation::Apply(Primitive::Any),
-        },
-    ),
-    (
-        b"array_size",
-        Known {
-            since: 1,
-            operation: Operation::Apply(Primitive::ArraySize),
-        },
-    ),
-    (
-        b"index_array",
-        Known {
-            since: 1,
-            operation: Operation::Apply(Primitive::IndexArray),
-        },
-    ),
-    (
-        b"replace",
-        Known {
-            since: 1,
-            operation: Operation::Apply(Primitive::Replace),
-        },
-    ),
-    (
-        b"build",
-        Known {
-            since: 1,
-            operation: Operation::Apply(Primitive::Build),
-        },
-    ),
-    (
-        b"concat",
-        Known {
-            since: 1,
-            operation: Operation::Apply(Primitive::Concat),
-        },
-    ),
-    (
-        b"initialize",
-        Known {
-            since: 1,
-            operation: Operation::Apply(Primitive::Initialize),
-        },
-    ),
-    (
-        b"subset",
-        Known {
-            since: 1,
-            operation: Operation::Apply(Primitive::Subset),
-        },
-    ),
-    (
-        b"delete",
-        Known {
-            since: 1,
-            operation: Operation::Apply(Primitive::Delete),
-        },
-    ),
-    (
-        b"reverse",
-        Known {
-            since: 1,
-            operation: Operation::Apply(Primitive::Reverse),
-        },
-    ),
-    (
-        b"sort",
-        Known {
-            since: 1,
-            operation: Operation::Apply(Primitive::Sort),
-        },
-    ),
-    (
-        b"sum",
-        Known {
-            since: 1,
-            operation: Operation::Apply(Primitive::Sum),
-        },
-    ),
-    (
-        b"product",
-        Known {
-            since: 1,
-            operation: Operation::Apply(Primitive::Product),
-        },
-    ),
-    (
-        b"search",
-        Known {
-            since: 1,
-            operation: Operation::Apply(Primitive::Search),
-        },
-    ),
-    (
-        b"str_len",
-        Known {
-            since: 1,
-            operation: Operation::Apply(Primitive::StrLen),
-        },
-    ),
-    (
-        b"str_concat",
-        Known {
-            since: 1,
-            operation: Operation::Apply(Primitive::StrConcat),
-        },
-    ),
-    (
-        b"str_subset",
-        Known {
-            since: 1,
-            operation: Operation::Apply(Primitive::StrSubset),
-        },
-    ),
-    (
-        b"str_bytes",
-        Known {
-            since: 1,
-            operation: Operation::Apply(Primitive::StrBytes),
-        },
-    ),
-    (
-        b"bytes_str",
-        Known {
-            since: 1,
-            operation: Operation::Apply(Primitive::BytesStr),
-        },
-    ),
-    (
-        b"num_str",
-        Known {
-            since: 1,
-            operation: Operation::Apply(Primitive::NumStr),
-        },
-    ),
-    (
-        b"str_num",
-        Known {
-            since: 1,
-            operation: Operation::Apply(Primitive::StrNum),
-        },
-    ),
-    (
-        b"bundle",
-        Known {
-            since: 1,
-            operation: Operation::Apply(Primitive::Bundle),
-        },
-    ),
-    (
-        b"unbundle",
-        Known {
-            since: 1,
-            operation: Operation::Apply(Primitive::Unbundle),
-        },
-    ),
-    (
-        b"get",
-        Known {
-            since: 1,
-            operation: Operation::Get,
-        },
-    ),
-    (
-        b"set",
-        Known {
-            since: 1,
-            operation: Operation::Set,
-        },
-    ),
-    (
-        b"enqueue",
-        Known {
-            since: 1,
-            operation: Operation::Shared(SharedOp::Enqueue),
-        },
-    ),
-    (
-        b"dequeue",
-        Known {
-            since: 1,
-            operation: Operation::Shared(SharedOp::Dequeue),
-        },
-    ),
-    (
-        b"release",
-        Known {
-            since: 1,
-            operation: Operation::Shared(SharedOp::Release),
-        },
-    ),
-    (
-        b"qsize",
-        Known {
-            since: 1,
-            operation: Operation::Shared(SharedOp::Size),
-        },
-    ),
-    (
-        b"newref",
-        Known {
-            since: 1,
-            operation: Operation::Shared(SharedOp::NewRef),
-        },
-    ),
-    (
-        b"delref",
-        Known {
-            since: 1,
-            operation: Operation::Shared(SharedOp::DelRef),
-        },
-    ),
+/// All operations.
+pub static OPERATIONS: [Operation; 62] = [
+    Operation::Apply(Primitive::Add),
+    Operation::Apply(Primitive::Sub),
+    Operation::Apply(Primitive::Mul),
+    Operation::Apply(Primitive::Inc),
+    Operation::Apply(Primitive::Dec),
+    Operation::Apply(Primitive::Neg),
+    Operation::Apply(Primitive::Abs),
+    Operation::Apply(Primitive::QuotRem),
+    Operation::Apply(Primitive::MaxMin),
+    Operation::Apply(Primitive::And),
+    Operation::Apply(Primitive::Or),
+    Operation::Apply(Primitive::Xor),
+    Operation::Apply(Primitive::Not),
+    Operation::Apply(Primitive::Shift),
+    Operation::Apply(Primitive::ToI8),
+    Operation::Apply(Primitive::ToI16),
+    Operation::Apply(Primitive::ToI32),
+    Operation::Apply(Primitive::ToI64),
+    Operation::Apply(Primitive::ToU8),
+    Operation::Apply(Primitive::ToU16),
+    Operation::Apply(Primitive::ToU32),
+    Operation::Apply(Primitive::ToU64),
+    Operation::Apply(Primitive::BoolInt),
+    Operation::Apply(Primitive::Eq),
+    Operation::Apply(Primitive::Ne),
+    Operation::Apply(Primitive::Lt),
+    Operation::Apply(Primitive::Le),
+    Operation::Apply(Primitive::Gt),
+    Operation::Apply(Primitive::Ge),
+    Operation::Apply(Primitive::Select),
+    Operation::Apply(Primitive::All),
+    Operation::Apply(Primitive::Any),
+    Operation::Apply(Primitive::ArraySize),
+    Operation::Apply(Primitive::IndexArray),
+    Operation::Apply(Primitive::Replace),
+    Operation::Apply(Primitive::Build),
+    Operation::Apply(Primitive::Concat),
+    Operation::Apply(Primitive::Initialize),
+    Operation::Apply(Primitive::Subset),
+    Operation::Apply(Primitive::Delete),
+    Operation::Apply(Primitive::Reverse),
+    Operation::Apply(Primitive::Sort),
+    Operation::Apply(Primitive::Sum),
+    Operation::Apply(Primitive::Product),
+    Operation::Apply(Primitive::Search),
+    Operation::Apply(Primitive::StrLen),
+    Operation::Apply(Primitive::StrConcat),
+    Operation::Apply(Primitive::StrSubset),
+    Operation::Apply(Primitive::StrBytes),
+    Operation::Apply(Primitive::BytesStr),
+    Operation::Apply(Primitive::NumStr),
+    Operation::Apply(Primitive::StrNum),
+    Operation::Apply(Primitive::Bundle),
+    Operation::Apply(Primitive::Unbundle),
+    Operation::Get,
+    Operation::Set,
+    Operation::Shared(SharedOp::Enqueue),
+    Operation::Shared(SharedOp::Dequeue),
+    Operation::Shared(SharedOp::Release),
+    Operation::Shared(SharedOp::Size),
+    Operation::Shared(SharedOp::NewRef),
+    Operation::Shared(SharedOp::DelRef),
 ];
 
-fn lookup<T: Copy>(rows: &[(&[u8], T)], word: &[u8]) -> Option<T>
-    ensures { result ≡ lookup (rows_of rows.now) word.now }
+/// The row of an operation. That of `get` and `set` is the one of any element.
+fn operation_row(operation: Operation) -> Row
+    ensures { seen_row result ≡ operation_row operation }
 {
-    for (text, value) in rows {
-        if word == *text {
-            return Some(*value);
+    match operation {
+        Operation::Apply(primitive) => primitive_row(primitive),
+        Operation::Get => primitive_row(Primitive::Get(0)),
+        Operation::Set => primitive_row(Primitive::Set(0)),
+        Operation::Shared(shared) => shared_row(shared),
+    }
+}
+
+/// The first of these that a word names.
+fn first_named(operations: &[Operation], word: &[u8]) -> Option<Operation>
+    ensures { result ≡ lookup (words_of operations.now) word.now }
+{
+    for operation in operations {
+        if word == operation_row(*operation).word {
+            return Some(*operation);
         }
     }
     None
 }
 
-fn row_named(word: &[u8]) -> Option<Known>
-    ensures { result ≡ row_named word.now }
+fn operation_of(word: &[u8]) -> Option<Operation>
+    ensures { result ≡ operation_of word.now }
 {
-    lookup(&OPERATIONS, word)
+    first_named(&OPERATIONS, word)
 }
 
 /// The operation that a word names in listings of a version, if there is one.
 pub fn operation_named(version: u32, word: &[u8]) -> Option<Operation>
     ensures { result ≡ operation_named version word.now }
 {
-    let known = row_named(word)?;
-    if known.since <= version {
-        Some(known.operation)
+    let operation = operation_of(word)?;
+    if operation_row(operation).since <= version {
+        Some(operation)
     } else {
         None
     }
+}
+
+/// Each operation's word names it.
+pub fn operations_are_named()
+    ensures { AreNamed }
+{
 }

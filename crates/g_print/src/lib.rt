@@ -6,7 +6,7 @@ ghost use Rattle.std.specs.Prelude.{◌≡◌, ◌++◌, ℕ, List, OnOk, IfOk};
 ghost use Rattle.g_diagram.specs.Text as spec;
 ghost use Rattle.g_diagram.specs.declared.hierarchy.Hierarchy.{Hierarchy as Whole};
 ghost use Rattle.g_listing_grammar.specs.Listing.{IsListing};
-ghost use Rattle.g_print_laws.specs.Bytes.{IsBytes};
+ghost use Rattle.g_listing_grammar.specs.Bytes.{IsBytes};
 
 mod borders;
 mod literals;

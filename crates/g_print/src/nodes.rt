@@ -6,8 +6,9 @@ ghost use Rattle.g_diagram.specs.Text as spec;
 use crate::borders::{write_borders, write_gives};
 use crate::literals::{write_literal, write_quoted, write_selectors};
 use crate::page::Page;
-use crate::words::{shared_word, start_primitive};
+use crate::words::start_primitive;
 use g_diagram::{Branch, Diagram, Lit, Node, SequenceFrame, Tunnel, Wire};
+use g_operations::shared_row;
 use g_types::{Name, Ty};
 use std::alloc::AllocError;
 
@@ -45,7 +46,7 @@ fn write_node(page: &mut Page, depth: usize, node: &Node) -> Result<(), AllocErr
             inputs,
             outputs,
         } => {
-            page.start(depth, shared_word(*operation))?;
+            page.start(depth, shared_row(*operation).word)?;
             write_operands(page, inputs.as_slice(), outputs.as_slice())
         }
         Node::Obtain {

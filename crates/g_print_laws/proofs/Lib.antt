@@ -1,5 +1,6 @@
 pub mod TextLemmas
 pub mod Lexing
+pub mod Following
 pub mod NumberPieces
 pub mod TextPieces
 pub mod Parts

@@ -6,6 +6,7 @@ use Rattle.std.proofs.lemmas.Bool.Decides.{nat_tests}
 use Rattle.std.proofs.lemmas.Fmt.{decimal_digit}
 use Rattle.g_grammar.specs.Grammar.{Has, Phrases, take, or_else, tail, ◌>>=◌}
 use Rattle.g_grammar.proofs.Laws.{first_is, ends, same}
+use Rattle.g_listing_grammar.proofs.Good.{AreGood, IsGood, IsWord}
 use Rattle.g_tokens.specs.declared.token.Token.{Token}
 use Rattle.g_tokens.specs.declared.token.Token.TheVariants as token
 use Rattle.g_diagram.specs.declared.hierarchy.Clones.{Clones}
@@ -22,10 +23,10 @@ use Rattle.g_listing_grammar.specs.declared.ClonesWord.TheVariants as clones_wor
 use Rattle.g_listing_grammar.specs.Words.{word, name, eol, between, pool_size, version}
 use Rattle.g_listing_grammar.specs.Listing.{Kind, header_word, system_or_eol, system_end, after_clones, kind_rest, vi_rest, vi_word, at_end, vi_or_end, vis, listing, HasHierarchy, IsListing}
 use Rattle.g_tokens.specs.Tokens.{tokens_of, placed_tokens}
-use Rattle.g_print_laws.specs.Bytes.{IsBytes}
-use Rattle.g_print_laws.proofs.Lexing.{Full, Inside, IsWord, finish, space}
+use Rattle.g_listing_grammar.specs.Bytes.{IsBytes}
+use Rattle.g_print_laws.proofs.Lexing.{Full, Inside, finish, space}
 use Rattle.g_print_laws.proofs.NumberPieces.{number_piece}
-use Rattle.g_print_laws.proofs.Parts.{Rest, IsGood, AreGood, after, a_word, a_feed, stands_name}
+use Rattle.g_print_laws.proofs.Parts.{Rest, after, a_word, a_feed, stands_name}
 use Rattle.g_print_laws.proofs.BorderParts.{a_line, between_is}
 use Rattle.g_print_laws.proofs.PanelParts.{body, body_text, body_says}
 use Rattle.g_print_laws.proofs.GoodTokens.{tokens_good}
@@ -265,6 +266,9 @@ rewritten ts h has good =
       written = subst (λ (x : Hierarchy). Full (text.text_of x) (token.Word (codes "glisting") ∷ token.Number (pos 1) ∷ token.Eol ∷ new.tokens)) has.3.3.3.3.0
           (a_line 0 (codes "glisting") (record { letter = refl; all = refl; short = omega arith }) (record { bound = refl; inside = space plain }));
     }
+
+pub one : (bytes : List ℕ) (h g : Hierarchy) → IsListing bytes h → IsListing bytes g → g ≡ h
+one bytes h g has other = (same listing (tokens_of (placed_tokens bytes)) g h [] [] other has).0
 
 pub reads_back : (bytes : List ℕ) (h : Hierarchy) → IsBytes bytes → IsListing bytes h → IsListing (text.text_of h) h
 reads_back bytes h b has =

@@ -19,10 +19,9 @@ use Rattle.g_listing_grammar.specs.declared.StructureWord.TheVariants as structu
 use Rattle.g_listing_grammar.specs.Words.{node_words, or_operation, node_named, queue_size, between, as_pos}
 use Rattle.g_listing_grammar.specs.Types.{is_above}
 use Rattle.g_listing_grammar.specs.Nodes.{fitting_node, node_first, operation_rest, plain_rest}
-use Rattle.g_listing_words.specs.Operations.{lookup, row_named, in_version, operation_named}
+use Rattle.g_listing_words.specs.Operations.{lookup, operation_row, words_of, operation_of, in_version, operation_named}
 use Rattle.g_listing_words.specs.declared.Operation.{Operation}
 use Rattle.g_listing_words.specs.declared.Operation.TheVariants as operation
-use Rattle.g_listing_words.specs.declared.Known.{Known}
 use Rattle.g_listing_words.specs.declared.TheConstants.{OPERATIONS}
 use Rattle.g_print_laws.proofs.Lexing.{Inside, Full}
 use Rattle.g_print_laws.proofs.NumberPieces.{number_piece}
@@ -57,20 +56,20 @@ abbrev pub spelled : NodeWord → List ℕ
 spelled (word_of.Plain w) = plain_word w
 spelled (word_of.Structure s) = structure_word s
 
-row_is : (u : List ℕ) (row : Known) → row_named u ≡ Some row → u ≡ operation_word row.operation
-unfolding row_named
-row_is = named (λ (row : Known). operation_word row.operation) (map (λ row. (row.0.now, row.1)) OPERATIONS) refl
+word_is : (u : List ℕ) (o : Operation) → operation_of u ≡ Some o → u ≡ operation_word o
+unfolding operation_of
+word_is = named operation_word (words_of OPERATIONS) refl
 
 operation_is : (v : ℕ) (u : List ℕ) (o : Operation) → operation_named v u ≡ Some o → u ≡ operation_word o
-operation_is v u o e = go (row_named u) refl e
+operation_is v u o e = go (operation_of u) refl e
   where
-    in_row : (row : Known) (b : Bool) → cond b (Some row.operation) None ≡ Some o → row.operation ≡ o
-    in_row row true f = some_is f
-    in_row row false f = absurd cc
+    in_row : (x : Operation) (b : Bool) → cond b (Some x) None ≡ Some o → x ≡ o
+    in_row x true f = some_is f
+    in_row x false f = absurd cc
 
-    go : (r : Option Known) → row_named u ≡ r → in_version v r ≡ Some o → u ≡ operation_word o
+    go : (r : Option Operation) → operation_of u ≡ r → in_version v r ≡ Some o → u ≡ operation_word o
     go None f h = absurd cc
-    go (Some row) f h = row_is u row f ∙ ap operation_word (in_row row (nat_le row.since v) h)
+    go (Some x) f h = word_is u x f ∙ ap operation_word (in_row x (nat_le (operation_row x).since v) h)
 
 named_is : (v : ℕ) (u : List ℕ) (c : NodeWord) → node_named v u ≡ Some c → u ≡ spelled c
 named_is v u c e = go (lookup node_words u) (operation_named v u) refl refl e
