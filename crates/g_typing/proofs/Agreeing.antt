@@ -9,7 +9,7 @@ use Rattle.g_operations.specs.declared.shared.SharedOp.{SharedOp}
 use Rattle.g_operations.specs.declared.shared.SharedOp.TheVariants as shared
 use Rattle.g_diagram.specs.declared.node.Tunnel.{Tunnel}
 use Rattle.g_diagram.specs.declared.node.Tunnel.TheVariants as line
-use Rattle.g_diagram.specs.Lines.{Wire, Arm, Entry, Kind, Const, Apply, Shows, Shared, Obtain, Read, Write, Call, For, While, Case, Sequence, InPlace}
+use Rattle.g_diagram.specs.Lines.{Wire, Arm, Entry, Kind, Const, Apply, Shows, Shared, Obtain, Read, Write, Call, Loop, Case, Sequence, InPlace}
 use Rattle.g_typing.specs.Types.{Types, place, wire_type, wire_at, then_type, element, queued, referred}
 use Rattle.g_typing.specs.Rows.{unless, kind_misses, rowless}
 use Rattle.g_typing.specs.Typing.{Callees, Objects, result_type, next_result, control_types}
@@ -119,8 +119,7 @@ assigned_reads d (Shows name t input) = (d, input) ∷ []
 assigned_reads d (Write object input) = (d, input) ∷ []
 assigned_reads d (Call name inputs outputs) = at_diagram d inputs
 assigned_reads d (Shared op inputs outputs) = (d, wire_at inputs 0) ∷ (d, wire_at inputs 1) ∷ []
-assigned_reads d (For count iteration lines body) = all_unlike_reads d body lines
-assigned_reads d (While stop iteration lines body) = all_unlike_reads d body lines
+assigned_reads d (Loop count stop iteration lines body) = all_unlike_reads d body lines
 assigned_reads d (Case selector lines arms) = all_result_reads 0 arms lines
 assigned_reads d (InPlace lines body finish) = all_unlike_reads d body lines
 assigned_reads d _ = []
@@ -135,8 +134,7 @@ kind_unlike-local called objects M T v l d (Obtain queue size item out) h = refl
 kind_unlike-local called objects M T v l d (Read object out) h = refl
 kind_unlike-local called objects M T v l d (Write object input) h = ap (λ o. unlike o (objects object) (place v l 1)) h.0
 kind_unlike-local called objects M T v l d (Call name inputs outputs) h = inputs_unlike-local M T v l d 1 inputs (control_types (called name)) h
-kind_unlike-local called objects M T v l d (For count iteration lines body) h = lines_unlike-local M T v d body (l + 1) lines h
-kind_unlike-local called objects M T v l d (While stop iteration lines body) h = lines_unlike-local M T v d body (l + 1) lines h
+kind_unlike-local called objects M T v l d (Loop count stop iteration lines body) h = lines_unlike-local M T v d body (l + 1) lines h
 kind_unlike-local called objects M T v l d (Case selector lines arms) h = results_unlike-local M T v 0 arms lines h
 kind_unlike-local called objects M T v l d (Sequence parts) h = refl
 kind_unlike-local called objects M T v l d (InPlace lines body finish) h = lines_unlike-local M T v d body (l + 1) lines h
@@ -155,8 +153,7 @@ kind_mistakes-local M T v l d (Obtain queue size item out) h = refl
 kind_mistakes-local M T v l d (Read object out) h = refl
 kind_mistakes-local M T v l d (Write object input) h = refl
 kind_mistakes-local M T v l d (Call name inputs outputs) h = refl
-kind_mistakes-local M T v l d (For count iteration lines body) h = refl
-kind_mistakes-local M T v l d (While stop iteration lines body) h = refl
+kind_mistakes-local M T v l d (Loop count stop iteration lines body) h = refl
 kind_mistakes-local M T v l d (Case selector lines arms) h = ap (λ o. if_selecting o (λ t. arms_mistake v t arms)) h.0
 kind_mistakes-local M T v l d (Sequence parts) h = refl
 kind_mistakes-local M T v l d (InPlace lines body finish) h = refl
@@ -170,8 +167,7 @@ kind_unselected-local M T v l d (Obtain queue size item out) h = refl
 kind_unselected-local M T v l d (Read object out) h = refl
 kind_unselected-local M T v l d (Write object input) h = refl
 kind_unselected-local M T v l d (Call name inputs outputs) h = refl
-kind_unselected-local M T v l d (For count iteration lines body) h = refl
-kind_unselected-local M T v l d (While stop iteration lines body) h = refl
+kind_unselected-local M T v l d (Loop count stop iteration lines body) h = refl
 kind_unselected-local M T v l d (Case selector lines arms) h =
     ap (λ o. unless o may_select (place v l 1) ++ if_selecting o (uncovered v l (selectors_of arms))) h.0
 kind_unselected-local M T v l d (Sequence parts) h = refl

@@ -1,6 +1,5 @@
 pub mod Agreed
 pub mod Agreeing
-pub mod Covering
 pub mod Founded
 pub mod Joined
 pub mod LiteralLemmas

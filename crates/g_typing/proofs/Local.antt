@@ -7,9 +7,9 @@ use Rattle.g_prims_definitions.specs.Kinds.{part, array_of, is_bool}
 use Rattle.g_prims_definitions.specs.Rows.{is_element}
 use Rattle.g_diagram.specs.declared.node.Tunnel.{Tunnel}
 use Rattle.g_diagram.specs.declared.node.Tunnel.TheVariants as line
-use Rattle.g_diagram.specs.Lines.{Wire, Arm, Kind, Const, Apply, Shows, Shared, Obtain, Read, Write, Call, For, While, Case, Sequence, InPlace}
-use Rattle.g_typing.specs.Types.{Types, place, wire_type, wire_types, wire_at, both, then_type, element, referred, whole}
-use Rattle.g_typing.specs.Rows.{unless, has_elements, names_value, has_part, fits_shared, line_misses, lines_miss, kind_misses, primitive_misses}
+use Rattle.g_diagram.specs.Lines.{Wire, Arm, Kind, Const, Apply, Shows, Shared, Obtain, Read, Write, Call, Loop, Case, Sequence, InPlace}
+use Rattle.g_typing.specs.Types.{Types, place, wire_type, wire_types, or_unwired, wire_at, both, then_type, element, referred, whole}
+use Rattle.g_typing.specs.Rows.{unless, has_elements, names_value, has_part, fits_shared, line_misses, lines_miss, stop_operand, kind_misses, primitive_misses}
 use Rattle.g_typing.specs.Typing.{carried, given, kept_if, line_inside, line_outside, lines_inside, lines_outside, result_type, type_or_next}
 use Rattle.g_typing.proofs.Unique.{SameReads}
 
@@ -159,8 +159,7 @@ result_type-local M T k (arm ∷ arms) h =
 abbrev pub kind_reads : (d : ℕ) → Kind → List (ℕ × Wire)
 kind_reads d (Apply p inputs outputs) = at_diagram d inputs
 kind_reads d (Shared op inputs outputs) = (d, wire_at inputs 0) ∷ []
-kind_reads d (For count iteration lines body) = (d, count) ∷ all_miss_reads d body lines
-kind_reads d (While stop iteration lines body) = (body, stop) ∷ all_miss_reads d body lines
+kind_reads d (Loop count stop iteration lines body) = (d, or_unwired count) ∷ (body, or_unwired stop) ∷ all_miss_reads d body lines
 kind_reads d (InPlace lines body finish) = all_miss_reads d body lines
 kind_reads d _ = []
 
@@ -173,12 +172,11 @@ kind_misses-local M T v l d (Obtain queue size item out) h = refl
 kind_misses-local M T v l d (Read object out) h = refl
 kind_misses-local M T v l d (Write object input) h = refl
 kind_misses-local M T v l d (Call name inputs outputs) h = refl
-kind_misses-local M T v l d (For count iteration lines body) h =
-    ap (λ o. unless o is_num (place v l 1) ++ lines_miss M v d body (l + 1) lines) h.0
-    ∙ ap (λ ps. unless (wire_type T d count) is_num (place v l 1) ++ ps) (lines_miss-local M T v d body (l + 1) lines h.1)
-kind_misses-local M T v l d (While stop iteration lines body) h =
-    ap (λ o. unless o is_bool (place v l 1) ++ lines_miss M v d body (l + 1) lines) h.0
-    ∙ ap (λ ps. unless (wire_type T body stop) is_bool (place v l 1) ++ ps) (lines_miss-local M T v d body (l + 1) lines h.1)
+kind_misses-local M T v l d (Loop count stop iteration lines body) h =
+    ap (λ o. unless o is_num (place v l 1) ++ (unless (wire_type M body (or_unwired stop)) is_bool (place v l (stop_operand count)) ++ lines_miss M v d body (l + 1) lines)) h.0
+    ∙ ap (λ o. unless (wire_type T d (or_unwired count)) is_num (place v l 1) ++ (unless o is_bool (place v l (stop_operand count)) ++ lines_miss M v d body (l + 1) lines)) h.1.0
+    ∙ ap (λ ps. unless (wire_type T d (or_unwired count)) is_num (place v l 1) ++ (unless (wire_type T body (or_unwired stop)) is_bool (place v l (stop_operand count)) ++ ps))
+    (lines_miss-local M T v d body (l + 1) lines h.1.1)
 kind_misses-local M T v l d (Case selector lines arms) h = refl
 kind_misses-local M T v l d (Sequence parts) h = refl
 kind_misses-local M T v l d (InPlace lines body finish) h = lines_miss-local M T v d body (l + 1) lines h

@@ -8,7 +8,7 @@ use Rattle.g_types.specs.declared.ty.Ty.{Ty}
 use Rattle.g_diagram.specs.declared.node.Tunnel.{Tunnel}
 use Rattle.g_diagram.specs.declared.node.Tunnel.TheVariants as line
 use Rattle.g_diagram.specs.declared.panel.PanelItem.{PanelItem}
-use Rattle.g_diagram.specs.Lines.{Wire, Arm, Part, Entry, Kind, Const, Apply, Shows, Shared, Obtain, Read, Write, Call, For, While, Case, Sequence, InPlace}
+use Rattle.g_diagram.specs.Lines.{Wire, Arm, Part, Entry, Kind, Const, Apply, Shows, Shared, Obtain, Read, Write, Call, Loop, Case, Sequence, InPlace}
 use Rattle.g_typing.specs.Types.{Types}
 use Rattle.g_typing.specs.Typing.{Given, Callees, Objects, IsGivenTo, panel_type, given, given_each, line_inside, line_outside, lines_inside, lines_outside, result_given, next_result, controls_given}
 use Rattle.g_typing.proofs.Unique.{Step}
@@ -141,8 +141,7 @@ kind_named called objects l d (Obtain queue size item out) = ((λ M T. given_nam
 kind_named called objects l d (Read object out) = ((λ M T. given_names d out _ _), tt)
 kind_named called objects l d (Write object input) = tt
 kind_named called objects l d (Call name inputs outputs) = ((λ M T. each_names d outputs _ _), tt)
-kind_named called objects l d (For count iteration ts body) = loop_named l d body (For count iteration ts body) iteration ts
-kind_named called objects l d (While stop iteration ts body) = loop_named l d body (While stop iteration ts body) iteration ts
+kind_named called objects l d (Loop count stop iteration ts body) = loop_named l d body (Loop count stop iteration ts body) iteration ts
 kind_named called objects l d (Case selector ts arms) = named_append (arms_steps d ts arms) (results_steps d 0 arms ts) (arms_named d ts arms) (results_named d 0 arms ts)
 kind_named called objects l d (Sequence parts) = parts_named d None parts
 kind_named called objects l d (InPlace ts body finish) =

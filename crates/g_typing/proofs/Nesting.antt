@@ -283,10 +283,10 @@ level (Node-F.Write object input) = rolled _ (node.Write object input) _ (node.r
 level (Node-F.Call vi inputs outputs) = rolled _ (node.Call vi inputs outputs) _ (node.rolls-Call vi inputs outputs) (by.lines-Call vi inputs outputs) (one_good (kind.Call vi inputs outputs) refl tt)
 level (Node-F.For count iteration ts body) =
     rolled _ (node.For count iteration ts body.0) _ (node.rolls-For count iteration ts body.0) (by.lines-For count iteration ts body.0)
-    (loop_good ts (diagram_lines body.0) (λ first finish. kind.For count iteration ts first) (λ b f. refl) (λ b f. tt) body.1)
+    (loop_good ts (diagram_lines body.0) (λ first finish. kind.Loop (Some count) None iteration ts first) (λ b f. refl) (λ b f. tt) body.1)
 level (Node-F.While stop iteration ts body) =
     rolled _ (node.While stop iteration ts body.0) _ (node.rolls-While stop iteration ts body.0) (by.lines-While stop iteration ts body.0)
-    (loop_good ts (diagram_lines body.0) (λ first finish. kind.While stop iteration ts first) (λ b f. refl) (λ b f. tt) body.1)
+    (loop_good ts (diagram_lines body.0) (λ first finish. kind.Loop None (Some stop) iteration ts first) (λ b f. refl) (λ b f. tt) body.1)
 level (Node-F.Case selector ts branches) =
     let bs : List Branch = map (λ (p : Branch'). p.0) branches in
     rolled _ (node.Case selector ts bs) _ (node.rolls-Case selector ts bs) (by.lines-Case selector ts bs) (case_good selector ts (map branch_lines bs) (all_branches branches))

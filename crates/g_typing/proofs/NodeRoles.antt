@@ -4,9 +4,9 @@ use Rattle.std.specs.Prelude.{Option, Some, None}
 use Rattle.g_types.specs.declared.ty.Ty.{Ty}
 use Rattle.g_diagram.specs.declared.node.Tunnel.{Tunnel}
 use Rattle.g_diagram.specs.declared.node.Tunnel.TheVariants as line
-use Rattle.g_diagram.specs.Lines.{Wire, Arm, Part, Entry, Kind, Const, Apply, Shows, Shared, Obtain, Read, Write, Call, For, While, Case, Sequence, InPlace}
-use Rattle.g_diagram.specs.Operands.{Outside, Operand, Freedom, source, consumer, border, case_border, border_lines, parts_lines, give_line, kind_lines, call_inputs}
-use Rattle.g_typing.specs.Types.{wire_at}
+use Rattle.g_diagram.specs.Lines.{Wire, Arm, Part, Entry, Kind, Const, Apply, Shows, Shared, Obtain, Read, Write, Call, Loop, Case, Sequence, InPlace}
+use Rattle.g_diagram.specs.Operands.{Outside, Operand, Freedom, source, consumer, border, case_border, border_lines, parts_lines, give_line, loop_header, kind_lines, call_inputs}
+use Rattle.g_typing.specs.Types.{or_unwired, wire_at}
 use Rattle.g_typing.specs.Typing.{Given, Callees, Objects, IsGivenTo, given, given_each, result_given, next_result}
 use Rattle.g_typing.proofs.Unique.{Step}
 use Rattle.g_typing.proofs.Local.{all_outside_reads, at_diagram, result_reads, kind_reads}
@@ -253,6 +253,22 @@ parts_role free e k before numbers (p ∷ ps) rise earlier is out s (inr (inr q)
     same_body : (x y : ℕ) → Some x ≡ Some y → x ≡ y
     same_body x y same = cc same
 
+-- loops
+
+counted : (count stop : Option Wire) (iteration : Wire) (n : List ℕ) → or_unwired count ≡ Some n → HasOperand false n (loop_header count stop iteration)
+counted None stop iteration n e = absurd (cc e)
+counted (Some w) stop iteration n e = inl (refl, refl, e)
+
+-- the rule on rows reads the count outside, and the stop wire inside
+loop_read : (free : Freedom) (e : Entry) (count stop : Option Wire) (iteration : Wire) (ts : List Tunnel) (body z : ℕ) (n : List ℕ)
+    → IsRead (kind_reads e.diagram (Loop count stop iteration ts body)) z n
+    → OuterOr e.diagram (Outer free e (Loop count stop iteration ts body) false) (λ y. body ≡ y) z n
+loop_read free e count stop iteration ts body z n (inl q) = inl (q.0, inl (refl, refl, counted count stop iteration n q.1))
+loop_read free e count stop iteration ts body z n (inr (inl q)) = inr q.0
+loop_read free e count stop iteration ts body z n (inr (inr q)) =
+    from_border free e (Loop count stop iteration ts body) (λ y. body ≡ y) (λ y. body ≡ y) ts z n
+    (λ m b. inr (on_border e (body ∷ []) [] border (e.line + 1) false m ts b)) (λ y i. i) (lines_read_misses e.diagram body ts z n q)
+
 -- nodes
 
 pub roles : (free : Freedom) (called : Callees) (objects : Objects) (e : Entry) (k : Kind) → FramesRise k → (s : Step) → IsIn s (kind_steps called objects e.line e.diagram k) → Role free e k s
@@ -292,23 +308,10 @@ roles free called objects e (Call name inputs outputs) rise s (inl q) =
     (g.0, inl (refl, refl, operand_right true n (call_inputs (free name) 0 inputs) (map (source Outside) outputs) (outer_source outputs n g.1))))
     (λ z n h. absurd h))
 roles free called objects e (Call name inputs outputs) rise s (inr q) = absurd q
-roles free called objects e (For count iteration ts body) rise s h =
-    loop_role free e (For count iteration ts body) body iteration ts (inl refl)
+roles free called objects e (Loop count stop iteration ts body) rise s h =
+    loop_role free e (Loop count stop iteration ts body) body iteration ts (inl refl)
     (λ c m b. inr (on_border e (body ∷ []) [] border (e.line + 1) c m ts b))
-    (λ z n r. ⊎_elim
-    (λ q. inl (q.0, inl (refl, refl, inl (refl, refl, q.1))))
-    (λ q. from_border free e (For count iteration ts body) (λ y. body ≡ y) (λ y. body ≡ y) ts z n (λ m b. inr (on_border e (body ∷ []) [] border (e.line + 1) false m ts b)) (λ y i. i)
-    (lines_read_misses e.diagram body ts z n q))
-    r)
-    s h
-roles free called objects e (While stop iteration ts body) rise s h =
-    loop_role free e (While stop iteration ts body) body iteration ts (inl refl)
-    (λ c m b. inr (on_border e (body ∷ []) [] border (e.line + 1) c m ts b))
-    (λ z n r. ⊎_elim
-    (λ q. inr q.0)
-    (λ q. from_border free e (While stop iteration ts body) (λ y. body ≡ y) (λ y. body ≡ y) ts z n (λ m b. inr (on_border e (body ∷ []) [] border (e.line + 1) false m ts b)) (λ y i. i)
-    (lines_read_misses e.diagram body ts z n q))
-    r)
+    (λ z n r. loop_read free e count stop iteration ts body z n r)
     s h
 roles free called objects e (Case selector ts arms) rise s h = case_role free e selector ts arms s h
 roles free called objects e (Sequence parts) rise s h =

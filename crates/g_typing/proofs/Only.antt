@@ -6,7 +6,7 @@ use Rattle.std.proofs.lemmas.List.{append-nil}
 use Rattle.std.proofs.lemmas.List.Elements.{All-from_recursion, recursion_from_All}
 use Rattle.g_diagram.specs.declared.node.Tunnel.{Tunnel}
 use Rattle.g_diagram.specs.declared.panel.PanelItem.{PanelItem}
-use Rattle.g_diagram.specs.Lines.{Arm, Part, Entry, Kind, Const, Apply, Shows, Shared, Obtain, Read, Write, Call, For, While, Case, Sequence, InPlace}
+use Rattle.g_diagram.specs.Lines.{Arm, Part, Entry, Kind, Const, Apply, Shows, Shared, Obtain, Read, Write, Call, Loop, Case, Sequence, InPlace}
 use Rattle.g_typing.specs.Types.{Types}
 use Rattle.g_typing.specs.Typing.{Given, Callees, Objects, HasGiven, AreTypes, panel_type, controls_given, lines_inside, lines_outside, arms_inside, result_given, results_given, next_result, parts_given, kind_given, entries_given, all_given}
 use Rattle.g_typing.proofs.Unique.{Step, IsLocal, AreLocal, HaveGiven, HoldsAll, AreOrdered, IsGivenIn, unique}
@@ -44,8 +44,7 @@ kind_gives called objects M l d (Obtain queue size item out) = simp append-nil
 kind_gives called objects M l d (Read object out) = simp append-nil
 kind_gives called objects M l d (Write object input) = refl
 kind_gives called objects M l d (Call name inputs outputs) = simp append-nil
-kind_gives called objects M l d (For count iteration lines body) = simp append-nil
-kind_gives called objects M l d (While stop iteration lines body) = simp append-nil
+kind_gives called objects M l d (Loop count stop iteration lines body) = simp append-nil
 kind_gives called objects M l d (Case selector lines arms) =
     gives_append M (arms_steps d lines arms) (results_steps d 0 arms lines)
     ∙ ap (λ gs. gs ++ all_gives M (results_steps d 0 arms lines)) (arms_give M d lines arms) ∙ ap (λ gs. arms_inside M d lines arms ++ gs) (results_give M d 0 arms lines)

@@ -4,7 +4,7 @@ use Rattle.std.specs.Prelude.{Option, Some, None}
 use Rattle.g_types.specs.declared.ty.Ty.{Ty}
 use Rattle.g_diagram.specs.declared.node.Tunnel.{Tunnel}
 use Rattle.g_diagram.specs.declared.node.Tunnel.TheVariants as line
-use Rattle.g_diagram.specs.Lines.{Wire, Kind, For, While, Case, Sequence, InPlace}
+use Rattle.g_diagram.specs.Lines.{Wire, Kind, Loop, Case, Sequence, InPlace}
 use Rattle.g_diagram.specs.Operands.{Operand, border}
 use Rattle.g_typing.specs.Types.{Types}
 use Rattle.g_typing.specs.Typing.{Given, IsGivenTo, given, line_inside, line_outside, lines_inside, lines_outside}
@@ -22,8 +22,7 @@ IsRead (q ∷ qs) z n = ((q.0 ≡ z) × (q.1 ≡ Some n)) ⊎ IsRead qs z n
 
 -- the diagrams inside a node
 abbrev pub bodies : Kind → List ℕ
-bodies (For count iteration lines body) = body ∷ []
-bodies (While stop iteration lines body) = body ∷ []
+bodies (Loop count stop iteration lines body) = body ∷ []
 bodies (Case selector lines arms) = map (λ a. a.body) arms
 bodies (Sequence parts) = map (λ p. p.body) parts
 bodies (InPlace lines body finish) = body ∷ []

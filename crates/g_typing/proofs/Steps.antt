@@ -4,7 +4,7 @@ use Rattle.std.specs.Prelude.{Option, Some, None}
 use Rattle.g_types.specs.declared.ty.Ty.TheVariants as ty
 use Rattle.g_diagram.specs.declared.node.Tunnel.{Tunnel}
 use Rattle.g_diagram.specs.declared.node.Tunnel.TheVariants as line
-use Rattle.g_diagram.specs.Lines.{Wire, Arm, Part, Kind, Const, Apply, Shows, Shared, Obtain, Read, Write, Call, For, While, Case, Sequence, InPlace}
+use Rattle.g_diagram.specs.Lines.{Wire, Arm, Part, Kind, Const, Apply, Shows, Shared, Obtain, Read, Write, Call, Loop, Case, Sequence, InPlace}
 use Rattle.g_typing.specs.Types.{Types, wire_type, wire_types, wire_at, whole}
 use Rattle.g_typing.specs.Rows.{is_none_of, kind_misses}
 use Rattle.g_typing.specs.Typing.{Given, Callees, Objects, given, given_each, kept_if, all_kept_if, row_after, shared_after, indicator_types, lines_inside, lines_outside, result_given, next_result}
@@ -71,8 +71,7 @@ kind_steps called objects l d (Obtain queue size item out) =
 kind_steps called objects l d (Read object out) = fixed (given d out (objects object)) ∷ []
 kind_steps called objects l d (Write object input) = []
 kind_steps called objects l d (Call name inputs outputs) = fixed (given_each d outputs (indicator_types (called name))) ∷ []
-kind_steps called objects l d (For count iteration lines body) = loop_steps l d body (For count iteration lines body) iteration lines
-kind_steps called objects l d (While stop iteration lines body) = loop_steps l d body (While stop iteration lines body) iteration lines
+kind_steps called objects l d (Loop count stop iteration lines body) = loop_steps l d body (Loop count stop iteration lines body) iteration lines
 kind_steps called objects l d (Case selector lines arms) = steps_append (arms_steps d lines arms) (results_steps d 0 arms lines)
 kind_steps called objects l d (Sequence parts) = parts_steps d None parts
 kind_steps called objects l d (InPlace lines body finish) = inside d body None lines ∷ outside l d body (InPlace lines body finish) lines ∷ []
@@ -136,8 +135,7 @@ kind-local called objects l d (Obtain queue size item out) = ((λ M T h. refl), 
 kind-local called objects l d (Read object out) = ((λ M T h. refl), tt)
 kind-local called objects l d (Write object input) = tt
 kind-local called objects l d (Call name inputs outputs) = ((λ M T h. refl), tt)
-kind-local called objects l d (For count iteration lines body) = loop-local l d body (For count iteration lines body) iteration lines
-kind-local called objects l d (While stop iteration lines body) = loop-local l d body (While stop iteration lines body) iteration lines
+kind-local called objects l d (Loop count stop iteration lines body) = loop-local l d body (Loop count stop iteration lines body) iteration lines
 kind-local called objects l d (Case selector lines arms) = append-local (arms_steps d lines arms) (results_steps d 0 arms lines) (arms-local d lines arms) (results-local d 0 arms lines)
 kind-local called objects l d (Sequence parts) = parts-local d None parts
 kind-local called objects l d (InPlace lines body finish) = (inside-local d body None lines, (outside-local l d body (InPlace lines body finish) lines, tt))

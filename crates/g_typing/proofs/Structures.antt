@@ -1,6 +1,6 @@
 -- Typings and breaks of structures, computed: for each form of line a listing that is accepted and one that is broken.
 use Rattle.std.proofs.Common.{◌≡◌, refl, List, [], ◌∷◌, true, false}
-use Rattle.std.specs.Prelude.{ℕ, pos, None, codes}
+use Rattle.std.specs.Prelude.{ℕ, pos, Some, None, codes}
 use Rattle.g_types.specs.declared.rep.Rep.TheVariants.{I8, U8, I64}
 use Rattle.g_types.specs.declared.ty.Ty.TheVariants as ty
 use Rattle.g_values.specs.declared.primitive.Primitive.TheVariants as op
@@ -11,7 +11,7 @@ use Rattle.g_diagram.specs.declared.node.Selector.TheVariants as selector
 use Rattle.g_diagram.specs.declared.node.Selector.{Selector}
 use Rattle.g_diagram.specs.declared.node.Tunnel.{Tunnel}
 use Rattle.g_diagram.specs.declared.node.Tunnel.TheVariants as line
-use Rattle.g_diagram.specs.Lines.{Wire, Arm, Part, Entry, entry, Const, Apply, For, While, Case, Sequence, InPlace}
+use Rattle.g_diagram.specs.Lines.{Wire, Arm, Part, Entry, entry, Const, Apply, Loop, Case, Sequence, InPlace}
 use Rattle.g_typing.specs.Typing.{Given}
 use Rattle.g_typing.proofs.Listings.{i32, w, known, unknown, gives, breaks, at, everything, by_variant}
 
@@ -31,7 +31,7 @@ loop_panel =
 abbrev loop : List Entry
 loop =
     entry 2 0 (Const (ty.Num I64) (lit.Number (pos 0)) (w (codes "k"))) ∷
-    entry 3 0 (For None (w (codes "i")) (line.Index (w (codes "a")) (w (codes "e")) ∷ line.Register (w (codes "k")) (w (codes "c")) (w (codes "n")) (w (codes "t")) ∷ line.Gather (w (codes "e")) (w (codes "g")) ∷ line.Last (w (codes "n")) (w (codes "z")) ∷ line.Kept (ty.Str) (w (codes "s")) (w (codes "s")) (w (codes "u")) ∷ line.Tunnel (w (codes "k")) (w (codes "h")) ∷ []) 10) ∷
+    entry 3 0 (Loop (Some None) None (w (codes "i")) (line.Index (w (codes "a")) (w (codes "e")) ∷ line.Register (w (codes "k")) (w (codes "c")) (w (codes "n")) (w (codes "t")) ∷ line.Gather (w (codes "e")) (w (codes "g")) ∷ line.Last (w (codes "n")) (w (codes "z")) ∷ line.Kept (ty.Str) (w (codes "s")) (w (codes "s")) (w (codes "u")) ∷ line.Tunnel (w (codes "k")) (w (codes "h")) ∷ []) 10) ∷
     entry 11 10 (Apply op.Add ((w (codes "c")) ∷ (w (codes "e")) ∷ []) ((w (codes "n")) ∷ [])) ∷
     []
 
@@ -70,11 +70,11 @@ broken_loops_panel =
 
 abbrev broken_loops : List Entry
 broken_loops =
-    entry 3 0 (For (w (codes "s")) (w (codes "i")) (line.Tunnel (w (codes "a")) (w (codes "x")) ∷ line.Index (w (codes "a")) (w (codes "y")) ∷ line.Gather (w (codes "i")) (w (codes "g")) ∷ line.Last (w (codes "x")) (w (codes "l")) ∷ line.Register (w (codes "s")) (w (codes "p")) (w (codes "i")) (w (codes "q")) ∷ []) 9) ∷
+    entry 3 0 (Loop (Some (w (codes "s"))) None (w (codes "i")) (line.Tunnel (w (codes "a")) (w (codes "x")) ∷ line.Index (w (codes "a")) (w (codes "y")) ∷ line.Gather (w (codes "i")) (w (codes "g")) ∷ line.Last (w (codes "x")) (w (codes "l")) ∷ line.Register (w (codes "s")) (w (codes "p")) (w (codes "i")) (w (codes "q")) ∷ []) 9) ∷
     entry 10 9 (Apply op.Add ((w (codes "x")) ∷ (w (codes "y")) ∷ []) (None ∷ [])) ∷
     entry 11 9 (Apply op.StrConcat ((w (codes "p")) ∷ (w (codes "p")) ∷ []) (None ∷ [])) ∷
     entry 13 0 (Apply op.Inc ((w (codes "l")) ∷ []) ((w (codes "r")) ∷ [])) ∷
-    entry 14 0 (While (w (codes "k")) (w (codes "k")) (line.Kept (i32) None (w (codes "s")) (w (codes "u")) ∷ line.Gather (w (codes "m")) (w (codes "n")) ∷ line.Tunnel (w (codes "s")) (w (codes "s")) ∷ []) 18) ∷
+    entry 14 0 (Loop None (Some (w (codes "k"))) (w (codes "k")) (line.Kept (i32) None (w (codes "s")) (w (codes "u")) ∷ line.Gather (w (codes "m")) (w (codes "n")) ∷ line.Tunnel (w (codes "s")) (w (codes "s")) ∷ []) 18) ∷
     entry 19 18 (Const (ty.Arr i32) (lit.Array []) (w (codes "m"))) ∷
     entry 21 0 (Apply op.Inc ((w (codes "u")) ∷ []) (None ∷ [])) ∷
     []

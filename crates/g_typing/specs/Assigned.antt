@@ -7,9 +7,9 @@ use Rattle.g_operations.specs.declared.shared.SharedOp.{SharedOp}
 use Rattle.g_operations.specs.declared.shared.SharedOp.TheVariants as shared
 use Rattle.g_diagram.specs.declared.node.Tunnel.{Tunnel}
 use Rattle.g_diagram.specs.declared.node.Tunnel.TheVariants as line
-use Rattle.g_diagram.specs.Lines.{Wire, Arm, Entry, Kind, Shows, Shared, Write, Call, For, While, Case, InPlace}
+use Rattle.g_diagram.specs.Lines.{Wire, Arm, Entry, Kind, Const, Apply, Shows, Shared, Obtain, Read, Write, Call, Loop, Case, Sequence, InPlace}
 use Rattle.g_typing.specs.Types.{Types, place, wire_type, wire_at, then_type, element, queued, referred}
-use Rattle.g_typing.specs.Typing.{Callees, Objects, result_type, next_result, control_types}
+use Rattle.g_typing.specs.Typing.{Callees, Objects, is_result, result_type, next_result, control_types}
 
 abbrev pub unlike : (from to : Option Ty) → Place → List Place
 unlike None u p = []
@@ -32,7 +32,12 @@ line_unlike types v d b l (line.Element array index inner next outer) =
     unlike (wire_type types b next) (then_type (wire_type types d array) element) (place v l 4)
 line_unlike types v d b l (line.Field k cluster inner next outer) =
     unlike (wire_type types b next) (then_type (wire_type types d cluster) (part k)) (place v l 3)
-line_unlike types v d b l _ = []
+line_unlike types v d b l (line.Tunnel outer inner) = []
+line_unlike types v d b l (line.Last inner outer) = []
+line_unlike types v d b l (line.Gather inner outer) = []
+line_unlike types v d b l (line.Index array inner) = []
+line_unlike types v d b l (line.Result outer default) = []
+line_unlike types v d b l (line.Carry before inner) = []
 
 abbrev pub lines_unlike : Types → (vi d b line : ℕ) → List Tunnel → List Place
 lines_unlike types v d b l [] = []
@@ -45,8 +50,7 @@ gives_unlike types v k t (arm ∷ arms) =
     unlike (wire_type types arm.body (wire_at arm.gives k)) t (place v (arm.body + 1) (k + 1)) ++ gives_unlike types v k t arms
 
 abbrev pub result_unlike : Types → (vi k : ℕ) → List Arm → Tunnel → List Place
-result_unlike types v k arms (line.Result outer default) = gives_unlike types v k (result_type types k arms) arms
-result_unlike types v k arms _ = []
+result_unlike types v k arms t = if is_result t then gives_unlike types v k (result_type types k arms) arms else []
 
 abbrev pub results_unlike : Types → (vi k : ℕ) → List Arm → List Tunnel → List Place
 results_unlike types v k arms [] = []
@@ -56,18 +60,25 @@ results_unlike types v k arms (t ∷ ts) = result_unlike types v k arms t ++ res
 abbrev pub shared_unlike : Types → (vi line diagram : ℕ) → SharedOp → List Wire → List Place
 shared_unlike types v l d shared.Enqueue inputs =
     unlike (wire_type types d (wire_at inputs 1)) (then_type (wire_type types d (wire_at inputs 0)) queued) (place v l 2)
-shared_unlike types v l d _ inputs = []
+shared_unlike types v l d shared.Dequeue inputs = []
+shared_unlike types v l d shared.Release inputs = []
+shared_unlike types v l d shared.Size inputs = []
+shared_unlike types v l d shared.NewRef inputs = []
+shared_unlike types v l d shared.DelRef inputs = []
 
 abbrev pub kind_unlike : Callees → Objects → Types → (vi line diagram : ℕ) → Kind → List Place
 kind_unlike called objects types v l d (Shows name t input) = unlike (wire_type types d input) (Some t) (place v l 1)
 kind_unlike called objects types v l d (Write object input) = unlike (wire_type types d input) (objects object) (place v l 1)
 kind_unlike called objects types v l d (Call name inputs outputs) = inputs_unlike types v l d 1 inputs (control_types (called name))
 kind_unlike called objects types v l d (Shared op inputs outputs) = shared_unlike types v l d op inputs
-kind_unlike called objects types v l d (For count iteration lines body) = lines_unlike types v d body (l + 1) lines
-kind_unlike called objects types v l d (While stop iteration lines body) = lines_unlike types v d body (l + 1) lines
+kind_unlike called objects types v l d (Loop count stop iteration lines body) = lines_unlike types v d body (l + 1) lines
 kind_unlike called objects types v l d (Case selector lines arms) = results_unlike types v 0 arms lines
 kind_unlike called objects types v l d (InPlace lines body finish) = lines_unlike types v d body (l + 1) lines
-kind_unlike called objects types v l d _ = []
+kind_unlike called objects types v l d (Const t literal out) = []
+kind_unlike called objects types v l d (Apply p inputs outputs) = []
+kind_unlike called objects types v l d (Obtain queue size item out) = []
+kind_unlike called objects types v l d (Read object out) = []
+kind_unlike called objects types v l d (Sequence parts) = []
 
 -- 17: all such places of a VI with these nodes
 abbrev pub unassignable : Callees → Objects → Types → (vi : ℕ) → List Entry → List Place

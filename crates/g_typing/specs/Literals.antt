@@ -1,8 +1,6 @@
 -- Rule 15: literals and selectors that aren't values of their type.
-use Rattle.std.specs.Prelude.{ℕ, ℤ, pos, neg_ℤ, ◌+◌, ◌-ℤ◌, Bool, true, false, ◌&&◌, ◌||◌, List, [], ◌∷◌, ◌++◌, length, if◌then◌else◌, Option, Some, None, nat_le, int_le, int_lt}
+use Rattle.std.specs.Prelude.{ℕ, ℤ, ◌+◌, Bool, true, false, ◌&&◌, ◌||◌, List, [], ◌∷◌, ◌++◌, length, if◌then◌else◌, Option, Some, None, nat_le}
 use Rattle.std.specs.List.{list_all}
-use Rattle.g_types.specs.declared.rep.Rep.{Rep}
-use Rattle.g_types.specs.Rep.{half, size}
 use Rattle.g_types.specs.declared.ty.Ty.{Ty, out-Ty}
 use Rattle.g_types.specs.declared.ty.Ty.TheOpen.{Ty-F}
 use Rattle.g_types.specs.Ty.{is_num}
@@ -15,12 +13,9 @@ use Rattle.g_diagram.specs.declared.panel.PanelItem.{PanelItem}
 use Rattle.g_diagram.specs.declared.panel.PanelItem.TheVariants.{Control, Indicator}
 use Rattle.g_diagram.specs.declared.node.Selector.{Selector}
 use Rattle.g_diagram.specs.declared.node.Selector.TheVariants as selector
-use Rattle.g_diagram.specs.Lines.{Arm, Entry, Kind, Const, Case}
+use Rattle.g_rules_cases.specs.Held.{is_in_range}
+use Rattle.g_diagram.specs.Lines.{Arm, Entry, Kind, Const, Apply, Shows, Shared, Obtain, Read, Write, Call, Loop, Case, Sequence, InPlace}
 use Rattle.g_typing.specs.Types.{Types, place, wire_type}
-
--- a number of the representation
-abbrev pub is_in_range : Rep → ℤ → Bool
-is_in_range r n = int_le (neg_ℤ (pos (half r))) n && int_lt n (pos (size r) -ℤ pos (half r))
 
 -- literals
 
@@ -102,7 +97,16 @@ if_selecting (Some t) f = if may_select t then f t else []
 abbrev pub kind_mistakes : Types → (vi line diagram : ℕ) → Kind → List Place
 kind_mistakes types v l d (Const t literal out) = if is_value_of literal t then [] else place v l 0 ∷ []
 kind_mistakes types v l d (Case selector lines arms) = if_selecting (wire_type types d selector) (λ t. arms_mistake v t arms)
-kind_mistakes types v l d _ = []
+kind_mistakes types v l d (Apply p inputs outputs) = []
+kind_mistakes types v l d (Shows name t input) = []
+kind_mistakes types v l d (Shared op inputs outputs) = []
+kind_mistakes types v l d (Obtain queue size item out) = []
+kind_mistakes types v l d (Read object out) = []
+kind_mistakes types v l d (Write object input) = []
+kind_mistakes types v l d (Call name inputs outputs) = []
+kind_mistakes types v l d (Loop count stop iteration lines body) = []
+kind_mistakes types v l d (Sequence parts) = []
+kind_mistakes types v l d (InPlace lines body finish) = []
 
 abbrev pub nodes_mistake : Types → (vi : ℕ) → List Entry → List Place
 nodes_mistake types v [] = []

@@ -3,16 +3,18 @@ use Rattle.std.specs.Prelude.{ℕ, ◌+◌, ◌==◌, Bool, true, false, List, [
 use Rattle.g_types.specs.declared.ty.Ty.{Ty}
 use Rattle.g_types.specs.Ty.{is_num}
 use Rattle.g_values.specs.declared.primitive.Primitive.{Primitive}
-use Rattle.g_values.specs.declared.primitive.Primitive.TheVariants.{Unbundle}
 use Rattle.g_prims_definitions.specs.Kinds.{is_bool, part}
 use Rattle.g_prims_definitions.specs.Rows.{row_of, first_refused, is_shallow, is_element}
 use Rattle.g_diagram.specs.declared.place.Place.{Place}
+use Rattle.g_operations.specs.declared.row.Count.{Count}
+use Rattle.g_operations.specs.declared.row.Count.TheVariants.{Exactly, Between, Any}
 use Rattle.g_operations.specs.declared.shared.SharedOp.{SharedOp}
 use Rattle.g_operations.specs.declared.shared.SharedOp.TheVariants as shared
 use Rattle.g_diagram.specs.declared.node.Tunnel.{Tunnel}
 use Rattle.g_diagram.specs.declared.node.Tunnel.TheVariants as line
-use Rattle.g_diagram.specs.Lines.{Entry, Kind, Apply, Shared, Obtain, For, While, InPlace}
-use Rattle.g_typing.specs.Types.{Types, place, wire_type, wire_types, wire_at, element, queued, referred}
+use Rattle.g_diagram.specs.Lines.{Wire, Entry, Kind, Const, Apply, Shows, Shared, Obtain, Read, Write, Call, Loop, Case, Sequence, InPlace}
+use Rattle.g_operations.specs.Rows.{primitive_row}
+use Rattle.g_typing.specs.Types.{Types, place, wire_type, wire_types, or_unwired, wire_at, element, queued, referred}
 
 -- whether a type is of a kind; one that isn't known may be
 abbrev pub may_be : Option Ty → (Ty → Bool) → Bool
@@ -37,13 +39,14 @@ has_part k t = is_some (part k t)
 
 -- primitives
 
-abbrev pub is_unbundle : Primitive → Bool
-is_unbundle Unbundle = true
-is_unbundle _ = false
+-- where an operation's form leaves the number of its outputs open, as that of `unbundle`, there are as many as its row gives
+abbrev pub given_fit : Count → (outputs given : ℕ) → Bool
+given_fit (Exactly k) n m = true
+given_fit (Between least most) n m = true
+given_fit Any n m = n == m
 
--- `unbundle` gives each element
 abbrev pub outputs_fit : Primitive → (outputs given : ℕ) → Bool
-outputs_fit p n m = if is_unbundle p then n == m else true
+outputs_fit p n m = given_fit (primitive_row p).outputs n m
 
 -- the first input with which no row begins, by what the row gives
 abbrev pub row_misses : (vi line : ℕ) → Primitive → (outputs : ℕ) → (inputs : List Ty) → Option (List Ty) → List Place
@@ -57,9 +60,12 @@ primitive_misses v l p n (Some ts) = row_misses v l p n ts (row_of p ts)
 -- shared operations, by their first operand: a reference to a queue, for `delref` to a value, and for `newref` what it names
 
 abbrev pub fits_shared : SharedOp → Ty → Bool
+fits_shared shared.Enqueue t = names_queue t
+fits_shared shared.Dequeue t = names_queue t
+fits_shared shared.Release t = names_queue t
+fits_shared shared.Size t = names_queue t
 fits_shared shared.NewRef t = is_shallow t
 fits_shared shared.DelRef t = names_value t
-fits_shared _ t = names_queue t
 
 -- border lines of a structure whose diagrams are d outside and b inside
 
@@ -70,7 +76,12 @@ line_misses types v d b l (line.Ref reference inner next same code) = unless (wi
 line_misses types v d b l (line.Element array index inner next outer) =
     unless (wire_type types d array) has_elements (place v l 1) ++ unless (wire_type types d index) is_num (place v l 2)
 line_misses types v d b l (line.Field k cluster inner next outer) = unless (wire_type types d cluster) (has_part k) (place v l 1)
-line_misses types v d b l _ = []
+line_misses types v d b l (line.Tunnel outer inner) = []
+line_misses types v d b l (line.Register initial inner next last) = []
+line_misses types v d b l (line.Kept t inner next last) = []
+line_misses types v d b l (line.Last inner outer) = []
+line_misses types v d b l (line.Result outer default) = []
+line_misses types v d b l (line.Carry before inner) = []
 
 abbrev pub lines_miss : Types → (vi d b line : ℕ) → List Tunnel → List Place
 lines_miss types v d b l [] = []
@@ -78,14 +89,26 @@ lines_miss types v d b l (t ∷ ts) = line_misses types v d b l t ++ lines_miss 
 
 -- nodes
 
+-- the operand of a loop's stop wire, which stands after its count
+abbrev pub stop_operand : (count : Option Wire) → ℕ
+stop_operand None = 1
+stop_operand (Some w) = 2
+
 abbrev pub kind_misses : Types → (vi line diagram : ℕ) → Kind → List Place
 kind_misses types v l d (Apply p inputs outputs) = primitive_misses v l p (length outputs) (wire_types types d inputs)
 kind_misses types v l d (Shared op inputs outputs) = unless (wire_type types d (wire_at inputs 0)) (fits_shared op) (place v l 1)
 kind_misses types v l d (Obtain queue size item out) = if is_shallow item then [] else place v l 0 ∷ []
-kind_misses types v l d (For count iteration lines body) = unless (wire_type types d count) is_num (place v l 1) ++ lines_miss types v d body (l + 1) lines
-kind_misses types v l d (While stop iteration lines body) = unless (wire_type types body stop) is_bool (place v l 1) ++ lines_miss types v d body (l + 1) lines
+kind_misses types v l d (Loop count stop iteration lines body) =
+    unless (wire_type types d (or_unwired count)) is_num (place v l 1)
+    ++ (unless (wire_type types body (or_unwired stop)) is_bool (place v l (stop_operand count)) ++ lines_miss types v d body (l + 1) lines)
 kind_misses types v l d (InPlace lines body finish) = lines_miss types v d body (l + 1) lines
-kind_misses types v l d _ = []
+kind_misses types v l d (Const t literal out) = []
+kind_misses types v l d (Shows name t input) = []
+kind_misses types v l d (Read object out) = []
+kind_misses types v l d (Write object input) = []
+kind_misses types v l d (Call name inputs outputs) = []
+kind_misses types v l d (Case selector lines arms) = []
+kind_misses types v l d (Sequence parts) = []
 
 abbrev pub entry_misses : Types → (vi : ℕ) → Entry → List Place
 entry_misses types v e = kind_misses types v e.line e.diagram e.kind

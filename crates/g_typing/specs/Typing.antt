@@ -1,6 +1,6 @@
 -- What each line gives to its sources, and the typing of a VI: each source has the type that its line gives it from the types of its inputs,
 -- and none where that gives none.
-use Rattle.std.specs.Prelude.{ℕ, ◌+◌, ◌≡◌, ◌⊎◌, Bool, true, false, List, [], ◌∷◌, ◌++◌, if◌then◌else◌, Option, Some, None, All}
+use Rattle.std.specs.Prelude.{ℕ, ◌+◌, ◌≡◌, ◌⊎◌, Bool, true, false, List, [], ◌∷◌, ◌++◌, if◌then◌else◌, Option, Some, None, is_some, All}
 use Rattle.std.specs.Str.{bytes_eq}
 use Rattle.g_types.specs.declared.ty.Ty.{Ty}
 use Rattle.g_types.specs.declared.ty.Ty.TheVariants as ty
@@ -14,9 +14,9 @@ use Rattle.g_diagram.specs.declared.node.Tunnel.TheVariants as line
 use Rattle.g_diagram.specs.declared.panel.PanelItem.{PanelItem}
 use Rattle.g_diagram.specs.declared.panel.PanelItem.TheVariants.{Control, Indicator}
 use Rattle.g_diagram.specs.declared.hierarchy.Vi.{Vi}
-use Rattle.g_diagram.specs.Lines.{Wire, Arm, Part, Entry, Kind, Const, Apply, Shows, Shared, Obtain, Read, Write, Call, For, While, Case, Sequence, InPlace, entries_of}
+use Rattle.g_diagram.specs.Lines.{Wire, Arm, Part, Entry, Kind, Const, Apply, Shows, Shared, Obtain, Read, Write, Call, Loop, Case, Sequence, InPlace, entries_of}
 use Rattle.g_diagram.specs.Ports.{first_vi}
-use Rattle.g_typing.specs.Types.{Types, wire_type, wire_types, wire_at, then_type, element, queued, referred, whole}
+use Rattle.g_typing.specs.Types.{Types, wire_type, wire_types, or_unwired, wire_at, then_type, element, queued, referred, whole}
 use Rattle.g_typing.specs.Rows.{has_rows}
 
 -- a named source with what its line gives it
@@ -61,17 +61,17 @@ with_code None = None
 with_code (Some t) = Some (t ∷ whole ∷ [])
 
 -- the outputs by the type of the first operand
-abbrev pub shared_row : SharedOp → Ty → Option (List Ty)
-shared_row shared.Enqueue q = Some (whole ∷ [])
-shared_row shared.Dequeue q = with_code (queued q)
-shared_row shared.Release q = Some (whole ∷ [])
-shared_row shared.Size q = Some (whole ∷ whole ∷ [])
-shared_row shared.NewRef t = Some (ty.ValueRef t ∷ [])
-shared_row shared.DelRef r = with_code (referred r)
+abbrev pub shared_types : SharedOp → Ty → Option (List Ty)
+shared_types shared.Enqueue q = Some (whole ∷ [])
+shared_types shared.Dequeue q = with_code (queued q)
+shared_types shared.Release q = Some (whole ∷ [])
+shared_types shared.Size q = Some (whole ∷ whole ∷ [])
+shared_types shared.NewRef t = Some (ty.ValueRef t ∷ [])
+shared_types shared.DelRef r = with_code (referred r)
 
 abbrev pub shared_after : SharedOp → Option Ty → Option (List Ty)
 shared_after op None = None
-shared_after op (Some t) = shared_row op t
+shared_after op (Some t) = shared_types op t
 
 -- the type of what stands at an operand in the diagram of the frame before, if there is one
 abbrev pub carried : Types → (before : Option ℕ) → Wire → Option Ty
@@ -89,7 +89,9 @@ line_inside types d b before (line.Carry earlier inner) = given b inner (carried
 line_inside types d b before (line.Ref reference inner next same code) = given b inner (then_type (wire_type types d reference) referred)
 line_inside types d b before (line.Element array index inner next outer) = given b inner (then_type (wire_type types d array) element)
 line_inside types d b before (line.Field k cluster inner next outer) = given b inner (then_type (wire_type types d cluster) (part k))
-line_inside types d b before _ = []
+line_inside types d b before (line.Last inner outer) = []
+line_inside types d b before (line.Gather inner outer) = []
+line_inside types d b before (line.Result outer default) = []
 
 -- what it gives outside, where the structure breaks no rule 16 if ok
 
@@ -102,7 +104,10 @@ line_outside types ok d b (line.Ref reference inner next same code) =
     given d same (kept_if ok (wire_type types d reference)) ++ given d code (kept_if ok (then_type (wire_type types d reference) (λ t. Some whole)))
 line_outside types ok d b (line.Element array index inner next outer) = given d outer (kept_if ok (wire_type types d array))
 line_outside types ok d b (line.Field k cluster inner next outer) = given d outer (kept_if ok (wire_type types d cluster))
-line_outside types ok d b _ = []
+line_outside types ok d b (line.Tunnel outer inner) = []
+line_outside types ok d b (line.Index array inner) = []
+line_outside types ok d b (line.Result outer default) = []
+line_outside types ok d b (line.Carry before inner) = []
 
 abbrev pub lines_inside : Types → (d b : ℕ) → (before : Option ℕ) → List Tunnel → List Given
 lines_inside types d b before [] = []
@@ -129,17 +134,29 @@ abbrev pub result_type : Types → (k : ℕ) → List Arm → Option Ty
 result_type types k [] = None
 result_type types k (arm ∷ arms) = type_or_next types arm.body (wire_at arm.gives k) (result_type types k arms)
 
+-- the result that a line of a case declares
+abbrev pub result_of : Tunnel → Option Wire
+result_of (line.Result outer default) = Some outer
+result_of (line.Tunnel outer inner) = None
+result_of (line.Register initial inner next last) = None
+result_of (line.Kept t inner next last) = None
+result_of (line.Last inner outer) = None
+result_of (line.Gather inner outer) = None
+result_of (line.Index array inner) = None
+result_of (line.Carry before inner) = None
+result_of (line.Ref reference inner next same code) = None
+result_of (line.Element array index inner next outer) = None
+result_of (line.Field k cluster inner next outer) = None
+
 abbrev pub is_result : Tunnel → Bool
-is_result (line.Result outer default) = true
-is_result _ = false
+is_result t = is_some (result_of t)
 
 -- the number of the result after a line of a case
 abbrev pub next_result : Tunnel → (k : ℕ) → ℕ
 next_result t k = if is_result t then k + 1 else k
 
 abbrev pub result_given : Types → (d k : ℕ) → List Arm → Tunnel → List Given
-result_given types d k arms (line.Result outer default) = given d outer (result_type types k arms)
-result_given types d k arms _ = []
+result_given types d k arms t = given d (or_unwired (result_of t)) (result_type types k arms)
 
 abbrev pub results_given : Types → (d k : ℕ) → List Arm → List Tunnel → List Given
 results_given types d k arms [] = []
@@ -197,8 +214,7 @@ kind_given called objects types ok d (Obtain queue size item out) = given d out 
 kind_given called objects types ok d (Read object out) = given d out (objects object)
 kind_given called objects types ok d (Write object input) = []
 kind_given called objects types ok d (Call name inputs outputs) = given_each d outputs (indicator_types (called name))
-kind_given called objects types ok d (For count iteration lines body) = given body iteration (Some whole) ++ border_given types ok d body lines
-kind_given called objects types ok d (While stop iteration lines body) = given body iteration (Some whole) ++ border_given types ok d body lines
+kind_given called objects types ok d (Loop count stop iteration lines body) = given body iteration (Some whole) ++ border_given types ok d body lines
 kind_given called objects types ok d (Case selector lines arms) = arms_inside types d lines arms ++ results_given types d 0 arms lines
 kind_given called objects types ok d (Sequence parts) = parts_given types d None parts
 kind_given called objects types ok d (InPlace lines body finish) = border_given types ok d body lines
@@ -227,13 +243,12 @@ HasGiven types g = types g.diagram g.name ≡ g.type
 abbrev pub AreTypes : Callees → List PanelItem → List Entry → Types → Type 0
 AreTypes called panel es types = All (HasGiven types) (all_given called panel es types)
 
--- the types of the wires of a VI
 -- whether something is given to a name of a diagram
 abbrev pub IsGivenTo : List Given → (diagram : ℕ) → (name : List ℕ) → Type 0
 IsGivenTo [] d name = ⊥
 IsGivenTo (g ∷ gs) d name = ((g.diagram ≡ d) × (g.name ≡ name)) ⊎ IsGivenTo gs d name
 
---- the types of the wires of a VI
+-- the types of the wires of a VI
 pub record IsTyping (vis : List Vi) (vi : Vi) (types : Types) : Type 0 where
   pub given : AreTypes (called_panel vis) vi.panel (entries_of vi) types
   -- what no line gives has no type
