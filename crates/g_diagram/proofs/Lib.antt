@@ -1,3 +1,4 @@
 pub mod LineLemmas
+pub mod NodeTotals
 pub mod Trees
 mod Examples

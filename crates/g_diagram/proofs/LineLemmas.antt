@@ -1,27 +1,19 @@
 -- The lines of a node, by its variants.
-use Rattle.std.proofs.Common.{Some, None, ◌≡◌, ℕ, ℤ, ◌+◌, List, ◌∷◌, map, length, ap, sym, ◌∙◌}
+use Rattle.std.proofs.Common.{Some, None, ◌≡◌, ℕ, ℤ, ◌+◌, List, ◌∷◌, map, length, refl, ap, sym, ◌∙◌, [], ◌++◌}
 use Rattle.g_types.specs.declared.ty.Ty.{Ty}
 use Rattle.g_values.specs.declared.primitive.Primitive.{Primitive}
 use Rattle.g_diagram.specs.declared.panel.Lit.{Lit}
 use Rattle.g_operations.specs.declared.shared.SharedOp.{SharedOp}
 use Rattle.g_diagram.specs.declared.node.Tunnel.{Tunnel}
+use Rattle.g_diagram.specs.declared.node.Node.{Node}
 use Rattle.g_diagram.specs.declared.node.Branch.{Branch}
 use Rattle.g_diagram.specs.declared.node.Diagram.{Diagram}
 use Rattle.g_diagram.specs.declared.node.SequenceFrame.{SequenceFrame}
 use Rattle.g_diagram.specs.declared.node.Node.TheVariants as node
 use Rattle.g_diagram.specs.declared.node.Node.TheOpen.{Node-F}
 use Rattle.g_diagram.specs.declared.node.Node.TheFolds.{fold-Diagram, fold-Branch, fold-SequenceFrame, fold-roll-Node, fold_out-Diagram, fold_out-Branch, fold_out-SequenceFrame}
-use Rattle.g_diagram.specs.Lines.{Wire, Lines, BranchLines, FrameLines, lines_of, node_step, branch_step, diagram_step, frame_step, one_line, loop_lines, in_order, branches_count, branches_entries, arms, frames_count, frames_entries, parts, entry, Const, Apply, Shared, Obtain, Read, Write, Call, Loop, Case, Sequence, InPlace}
-
--- the lines of a diagram, of a branch and of a frame
-abbrev pub diagram_lines : Diagram → Lines
-diagram_lines = fold-Diagram Lines BranchLines Lines FrameLines node_step branch_step diagram_step frame_step
-
-abbrev pub branch_lines : Branch → BranchLines
-branch_lines = fold-Branch Lines BranchLines Lines FrameLines node_step branch_step diagram_step frame_step
-
-abbrev pub frame_lines : SequenceFrame → FrameLines
-frame_lines = fold-SequenceFrame Lines BranchLines Lines FrameLines node_step branch_step diagram_step frame_step
+pub use Rattle.g_diagram.specs.Lines.{diagram_lines, branch_lines, frame_lines}
+use Rattle.g_diagram.specs.Lines.{Wire, Lines, BranchLines, FrameLines, lines_of, node_step, branch_step, diagram_step, frame_step, one_line, loop_lines, in_order, entries_in, nodes_entries, branches_count, branches_entries, arms, frames_count, frames_entries, parts, entry, Const, Apply, Shared, Obtain, Read, Write, Call, Loop, Case, Sequence, InPlace}
 
 pub lines-diagram : (d : Diagram) → diagram_lines d ≡ in_order (map lines_of d.nodes)
 lines-diagram d = fold_out-Diagram Lines BranchLines Lines FrameLines node_step branch_step diagram_step frame_step d
@@ -93,5 +85,10 @@ lines-Case selector lines branches =
 pub lines-Sequence : (frames : List SequenceFrame) → lines_of (node.Sequence frames) ≡ sequence_lines (map frame_lines frames)
 lines-Sequence frames =
     ap lines_of (sym (node.rolls-Sequence frames)) ∙ fold-roll-Node Lines BranchLines Lines FrameLines node_step branch_step diagram_step frame_step (Node-F.Sequence frames)
+
+-- nodes one after the other are their lines in order
+pub in_turn : (ns : List Node) (line diagram : ℕ) → nodes_entries ns line diagram ≡ entries_in (map lines_of ns) line diagram
+in_turn [] line diagram = refl
+in_turn (n ∷ ns) line diagram = ap (λ es. (lines_of n).entries line diagram ++ es) (in_turn ns (line + (lines_of n).count) diagram)
 
 pub ruleset lines_by_variant = (lines-Const, lines-Apply, lines-Shared, lines-Obtain, lines-Read, lines-Write, lines-Call, lines-For, lines-While, lines-InPlace, lines-Case, lines-Sequence, lines-diagram, lines-branch, lines-frame)

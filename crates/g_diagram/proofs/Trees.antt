@@ -154,10 +154,6 @@ vi_of s = record { name = s.name; clones = s.clones; system = s.system; panel = 
 abbrev pub sketch_entries : Sketch → List Entry
 sketch_entries s = panel_entries s.panel 1 ++ entries_in (trees_lines s.top) (1 + length s.panel) 0
 
-nodes_in : (ns : List Node) (line diagram : ℕ) → nodes_entries ns line diagram ≡ entries_in (map lines_of ns) line diagram
-nodes_in [] line diagram = refl
-nodes_in (n ∷ ns) line diagram = ap (λ es. (lines_of n).entries line diagram ++ es) (nodes_in ns (line + (lines_of n).count) diagram)
-
 pub same_entries : (s : Sketch) → entries_of (vi_of s) ≡ sketch_entries s
 same_entries s =
-    ap (λ es. panel_entries s.panel 1 ++ es) (nodes_in (nodes_of s.top) (1 + length s.panel) 0 ∙ ap (λ ls. entries_in ls (1 + length s.panel) 0) (all_same s.top))
+    ap (λ es. panel_entries s.panel 1 ++ es) (by.in_turn (nodes_of s.top) (1 + length s.panel) 0 ∙ ap (λ ls. entries_in ls (1 + length s.panel) 0) (all_same s.top))

@@ -4,3 +4,4 @@ pub mod Text
 pub mod Operands
 pub mod Ports
 pub mod Leads
+pub mod Sizes

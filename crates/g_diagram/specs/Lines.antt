@@ -12,8 +12,11 @@ use Rattle.g_diagram.specs.declared.node.Selector.{Selector}
 use Rattle.g_operations.specs.declared.shared.SharedOp.{SharedOp}
 use Rattle.g_diagram.specs.declared.node.Tunnel.{Tunnel}
 use Rattle.g_diagram.specs.declared.node.Node.{Node}
+use Rattle.g_diagram.specs.declared.node.Branch.{Branch}
+use Rattle.g_diagram.specs.declared.node.Diagram.{Diagram}
+use Rattle.g_diagram.specs.declared.node.SequenceFrame.{SequenceFrame}
 use Rattle.g_diagram.specs.declared.node.Node.TheOpen.{Node-F, Branch-F, Diagram-F, SequenceFrame-F}
-use Rattle.g_diagram.specs.declared.node.Node.TheFolds.{fold-Node}
+use Rattle.g_diagram.specs.declared.node.Node.TheFolds.{fold-Node, fold-Diagram, fold-Branch, fold-SequenceFrame}
 use Rattle.g_diagram.specs.declared.hierarchy.Vi.{Vi}
 
 -- the name at an operand, or none where `_` leaves it unwired
@@ -168,6 +171,16 @@ frame_step f = record { lines = f.lines; body = f.body }
 -- the lines of a node and of all that stands inside it
 abbrev pub lines_of : Node → Lines
 lines_of = fold-Node Lines BranchLines Lines FrameLines node_step branch_step diagram_step frame_step
+
+-- the lines of a diagram, of a branch and of a frame
+abbrev pub diagram_lines : Diagram → Lines
+diagram_lines = fold-Diagram Lines BranchLines Lines FrameLines node_step branch_step diagram_step frame_step
+
+abbrev pub branch_lines : Branch → BranchLines
+branch_lines = fold-Branch Lines BranchLines Lines FrameLines node_step branch_step diagram_step frame_step
+
+abbrev pub frame_lines : SequenceFrame → FrameLines
+frame_lines = fold-SequenceFrame Lines BranchLines Lines FrameLines node_step branch_step diagram_step frame_step
 
 -- nodes one after the other, from a line on
 abbrev pub nodes_entries : List Node → (line diagram : ℕ) → List Entry

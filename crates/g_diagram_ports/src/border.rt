@@ -1,6 +1,7 @@
 //! The operands of each form of line.
 
 ghost use Rattle.std.specs.Prelude.{◌≡◌, ◌+◌, ◌++◌, map, IfOk, OnOk, false};
+ghost use Rattle.std.specs.Option.{option_map};
 ghost use Rattle.g_diagram.specs.Operands as spec;
 ghost use Rattle.g_diagram_ports.specs.Seen.{seen_operand, form_of};
 
@@ -162,6 +163,27 @@ pub fn in_and_out<'a>(
         operands.push(consumer(Side::Outside, wire))?;
     }
     push_outputs(&mut operands, outputs)?;
+    Ok(operands)
+}
+
+/// The first line of a loop: its count from outside, which may be left to arrays, its stop wire inside,
+/// and its iteration.
+pub fn loop_header<'a>(
+    alloc: Global,
+    count: Option<&'a Wire>,
+    stop: Option<&'a Wire>,
+    iteration: &'a Wire,
+) -> Result<Vec<Operand<'a>>, AllocError>
+    ensures { IfOk result (λ operands. map seen_operand operands.items ≡ spec.loop_header (option_map (λ w. w.now) count.entry) (option_map (λ w. w.now) stop.entry) iteration.now) }
+{
+    let mut operands = Vec::new(alloc);
+    if let Some(count) = count {
+        operands.push(free_consumer(Side::Outside, count))?;
+    }
+    if let Some(stop) = stop {
+        operands.push(consumer(Side::Inside, stop))?;
+    }
+    operands.push(source(Side::Inside, iteration))?;
     Ok(operands)
 }
 

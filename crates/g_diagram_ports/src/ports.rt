@@ -8,7 +8,7 @@ ghost use Rattle.g_diagram_table.specs.Seen as table;
 ghost use Rattle.g_diagram_ports.specs.Seen.{seen, seen_operand};
 ghost use Rattle.g_diagram_ports.specs.Callees.{is_free_by, freedom_by};
 
-use crate::border::{give_operands, in_and_out, push_outputs};
+use crate::border::{give_operands, in_and_out, loop_header, push_outputs};
 use crate::callee::Callees;
 use crate::operand::{Operand, Side, consumer, free_consumer, source};
 use crate::port::Port;
@@ -314,29 +314,15 @@ fn push_entry<'a>(
             let operands = call_operands(alloc, callees, *vi, *inputs, *outputs)?;
             push_plain(ports, entry, operands.as_slice())
         }
-        Kind::For {
+        Kind::Loop {
             count,
-            iteration,
-            lines,
-            body,
-        } => {
-            let header = [
-                free_consumer(Side::Outside, *count),
-                source(Side::Inside, *iteration),
-            ];
-            push_loop(alloc, ports, entry, &header, *lines, *body)
-        }
-        Kind::While {
             stop,
             iteration,
             lines,
             body,
         } => {
-            let header = [
-                consumer(Side::Inside, *stop),
-                source(Side::Inside, *iteration),
-            ];
-            push_loop(alloc, ports, entry, &header, *lines, *body)
+            let header = loop_header(alloc, *count, *stop, *iteration)?;
+            push_loop(alloc, ports, entry, header.as_slice(), *lines, *body)
         }
         Kind::Case {
             selector,

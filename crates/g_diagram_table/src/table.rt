@@ -3,13 +3,15 @@
 ghost use Rattle.std.specs.Prelude.{◌≡◌, ◌++◌, ◌+◌, ◌∷◌, [], length, map, IfOk, OnOk};
 ghost use Rattle.std.specs.Option.{option_map};
 ghost use Rattle.g_diagram.specs.Lines as spec;
-ghost use Rattle.g_diagram.specs.Lines.{lines_of, entries_in, entries_of, panel_entries, branches_entries, frames_entries, loop_lines};
-ghost use Rattle.g_diagram.proofs.LineLemmas.{branch_lines, diagram_lines, frame_lines};
+ghost use Rattle.g_diagram.specs.Lines.{lines_of, diagram_lines, branch_lines, frame_lines, entries_in, entries_of, panel_entries, branches_entries, frames_entries, loop_lines};
 ghost use Rattle.g_diagram_table.specs.Seen.{seen, seen_arm, seen_part, seen_kind};
 
-use crate::count::{add, arm_count, give_count, node_count, nodes_count, number, part_count};
+use crate::count::{add, number};
 use crate::entry::{Arm, Entry, Kind, Part};
-use g_diagram::{Branch, Diagram, Node, PanelItem, SequenceFrame, Tunnel, Vi, Wire};
+use g_diagram::{
+    Branch, Diagram, Node, PanelItem, SequenceFrame, Tunnel, Vi, Wire, branch_line_count,
+    frame_line_count, give_line_count, node_line_count, nodes_line_count,
+};
 use std::alloc::{AllocError, Global};
 
 fn push<'a>(
@@ -44,7 +46,7 @@ fn arms_from<'a>(
             gives: branch.gives.as_slice(),
             body: line,
         })?;
-        line = add(line, arm_count(branch)?)?;
+        line = add(line, branch_line_count(branch).ok_or(AllocError)?)?;
     }
     Ok(arms)
 }
@@ -64,7 +66,7 @@ fn parts_from<'a>(
             lines: frame.lines.as_slice(),
             body: line,
         })?;
-        line = add(line, part_count(frame)?)?;
+        line = add(line, frame_line_count(frame).ok_or(AllocError)?)?;
     }
     Ok(parts)
 }
@@ -98,7 +100,7 @@ fn push_loop<'a>(
 ) -> Result<(), AllocError>
     ensures { OnOk result (map seen entries.new.items ≡ map seen entries.old.items
         ++ (loop_lines header.entry.lines.now (diagram_lines body.now) (λ first finish.
-            spec.Loop (option_map (λ w. w.now) header.entry.count) (option_map (λ w. w.now) header.entry.stop) header.entry.iteration.now header.entry.lines.now first)).entries line diagram) }
+        spec.Loop (option_map (λ w. w.now) header.entry.count) (option_map (λ w. w.now) header.entry.stop) header.entry.iteration.now header.entry.lines.now first)).entries line diagram) }
 {
     let first = after_border(line, header.lines)?;
     push(
@@ -267,7 +269,10 @@ fn push_node<'a>(
             let lines = lines.as_slice();
             let first = after_border(line, lines)?;
             let inside = add(first, 1)?;
-            let finish = add(inside, nodes_count(body.nodes.as_slice())?)?;
+            let finish = add(
+                inside,
+                nodes_line_count(body.nodes.as_slice()).ok_or(AllocError)?,
+            )?;
             push(
                 entries,
                 line,
@@ -297,7 +302,7 @@ fn push_nodes<'a>(
     let mut line = first;
     for node in nodes {
         push_node(alloc, entries, node, line, diagram)?;
-        line = add(line, node_count(node)?)?;
+        line = add(line, node_line_count(node).ok_or(AllocError)?)?;
     }
     Ok(())
 }
@@ -315,9 +320,9 @@ fn push_branches<'a>(
 {
     let mut line = first;
     for branch in branches {
-        let inside = add(add(line, 1)?, give_count(branch.gives.as_slice()))?;
+        let inside = add(add(line, 1)?, give_line_count(branch.gives.as_slice()))?;
         push_nodes(alloc, entries, branch.body.nodes.as_slice(), inside, line)?;
-        line = add(line, arm_count(branch)?)?;
+        line = add(line, branch_line_count(branch).ok_or(AllocError)?)?;
     }
     Ok(())
 }
@@ -337,7 +342,7 @@ fn push_frames<'a>(
     for frame in frames {
         let inside = add(add(line, 2)?, number(frame.lines.len())?)?;
         push_nodes(alloc, entries, frame.body.nodes.as_slice(), inside, line)?;
-        line = add(line, part_count(frame)?)?;
+        line = add(line, frame_line_count(frame).ok_or(AllocError)?)?;
     }
     Ok(())
 }
@@ -373,7 +378,7 @@ fn push_item<'a>(
 /// All nodes of a VI, by line: the `vi` line is line 0, a node's line is its first one, and a wired
 /// indicator is a node of the VI's own diagram at its panel line. Only want of memory refuses it, and
 /// 2^32 lines or more, which no place can name, are told so too.
-#[tactic(auto, using(crate::proofs::Nodes::in_turn))]
+#[tactic(auto, using(g_diagram::proofs::LineLemmas::in_turn))]
 pub fn table<'a>(alloc: Global, vi: &'a Vi) -> Result<Vec<Entry<'a>>, AllocError>
     ensures { IfOk result (λ entries. map seen entries.items ≡ entries_of vi.now) }
 {
