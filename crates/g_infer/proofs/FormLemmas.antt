@@ -4,7 +4,7 @@ use Rattle.std.specs.Prelude.{Option, Some, None}
 use Rattle.std.proofs.lemmas.List.{map-append}
 use Rattle.g_diagram.specs.declared.node.Tunnel.{Tunnel}
 use Rattle.g_diagram.specs.declared.panel.PanelItem.{PanelItem}
-use Rattle.g_diagram.specs.Lines.{Arm, Part, Entry, Kind, Const, Apply, Shows, Shared, Obtain, Read, Write, Call, For, While, Case, Sequence, InPlace, entry}
+use Rattle.g_diagram.specs.Lines.{Arm, Part, Entry, Kind, Const, Apply, Shows, Shared, Obtain, Read, Write, Call, Loop, Case, Sequence, InPlace, entry}
 use Rattle.g_typing.specs.Typing.{Callees, Objects, panel_type, next_result}
 use Rattle.g_typing.proofs.Unique.{Step}
 use Rattle.g_typing.proofs.Steps.{arms_steps, results_steps, parts_steps, steps_append, kind_steps}
@@ -39,8 +39,7 @@ module _ (called : Callees) (objects : Objects) where
   node_are l d (Read object out) = refl
   node_are l d (Write object input) = refl
   node_are l d (Call name inputs outputs) = refl
-  node_are l d (For count iteration ts body) = refl
-  node_are l d (While stop iteration ts body) = refl
+  node_are l d (Loop count stop iteration ts body) = refl
   node_are l d (Case selector ts arms) =
       map-append (step_of called objects) (arms_forms d ts arms) (results_forms d 0 arms ts)
       ∙ ap (λ (ss : List Step). ss ++ map (step_of called objects) (results_forms d 0 arms ts)) (arms_are d ts arms)

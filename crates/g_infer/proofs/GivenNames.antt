@@ -6,7 +6,7 @@ use Rattle.std.proofs.lemmas.List.Folds.{list_any-append}
 use Rattle.g_types.specs.declared.ty.Ty.{Ty}
 use Rattle.g_diagram.specs.declared.node.Tunnel.{Tunnel}
 use Rattle.g_diagram.specs.declared.node.Tunnel.TheVariants as line
-use Rattle.g_diagram.specs.Lines.{Wire, Arm, Part, Kind, Const, Apply, Shows, Shared, Obtain, Read, Write, Call, For, While, Case, Sequence, InPlace}
+use Rattle.g_diagram.specs.Lines.{Wire, Arm, Part, Kind, Const, Apply, Shows, Shared, Obtain, Read, Write, Call, Loop, Case, Sequence, InPlace}
 use Rattle.g_typing.specs.Types.{Types}
 use Rattle.g_typing.specs.Rows.{has_rows}
 use Rattle.g_typing.specs.Typing.{Given, Callees, Objects, given, given_each, line_inside, line_outside, lines_inside, lines_outside, border_given, arms_inside, result_given, results_given, parts_given, next_result, kind_given}
@@ -123,8 +123,7 @@ module _ (p : ℕ → List ℕ → Bool) where
   kind_test c d o q M T ok also z (Read object out) = one z out _ _
   kind_test c d o q M T ok also z (Write object input) = refl
   kind_test c d o q M T ok also z (Call name inputs outputs) = each z outputs _ _
-  kind_test c d o q M T ok also z (For count iteration ts body) = loop_test M T ok also z body iteration _ ts
-  kind_test c d o q M T ok also z (While stop iteration ts body) = loop_test M T ok also z body iteration _ ts
+  kind_test c d o q M T ok also z (Loop count stop iteration ts body) = loop_test M T ok also z body iteration _ ts
   kind_test c d o q M T ok also z (Case selector ts arms) =
       both (arms_inside M z ts arms) (arms_inside T z ts arms) (results_given M z 0 arms ts) (results_given T z 0 arms ts) (arms_test M T z ts arms) (results_test M T z 0 arms ts)
   kind_test c d o q M T ok also z (Sequence parts) = parts_test M T z None parts

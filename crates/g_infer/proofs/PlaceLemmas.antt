@@ -16,11 +16,11 @@ use Rattle.g_diagram.specs.declared.node.Tunnel.{Tunnel}
 use Rattle.g_diagram.specs.declared.node.Tunnel.TheVariants as line
 use Rattle.g_diagram.specs.declared.panel.PanelItem.{PanelItem}
 use Rattle.g_diagram.specs.declared.panel.PanelItem.TheVariants.{Control, Indicator}
-use Rattle.g_diagram.specs.Lines.{Wire, Arm, Kind, Entry, Const, Apply, Shows, Shared, Obtain, Read, Write, Call, For, While, Case, Sequence, InPlace}
-use Rattle.g_typing.specs.Types.{Types, place, wire_type, wire_types, wire_at, then_type, element, queued, referred}
+use Rattle.g_diagram.specs.Lines.{Wire, Arm, Kind, Entry, Const, Apply, Shows, Shared, Obtain, Read, Write, Call, Loop, Case, Sequence, InPlace}
+use Rattle.g_typing.specs.Types.{Types, place, wire_type, wire_types, or_unwired, wire_at, then_type, element, queued, referred}
 use Rattle.g_typing.specs.Typing.{Callees, Objects, control_types, result_type, next_result}
 use Rattle.g_typing.specs.Literals.{is_value_of, is_default_of, may_select, selects, if_selecting, arms_mistake, kind_mistakes, nodes_mistake, item_mistakes, panel_mistakes, mistaken}
-use Rattle.g_typing.specs.Rows.{may_be, has_elements, has_part, names_value, fits_shared, outputs_fit, unless, row_misses, primitive_misses, line_misses, lines_miss, kind_misses, rowless}
+use Rattle.g_typing.specs.Rows.{may_be, has_elements, has_part, names_value, fits_shared, outputs_fit, unless, stop_operand, row_misses, primitive_misses, line_misses, lines_miss, kind_misses, rowless}
 use Rattle.g_typing.specs.Assigned.{unlike, inputs_unlike, line_unlike, lines_unlike, gives_unlike, result_unlike, results_unlike, shared_unlike, kind_unlike, unassignable}
 use Rattle.g_typing.specs.Selected.{selectors_of, is_complete, uncovered, kind_unselected, unselected}
 use Rattle.g_typing.specs.Breaks.{broken, breaks_by}
@@ -61,8 +61,7 @@ mistakes_in M v l d (Obtain queue size item out) = tt
 mistakes_in M v l d (Read object out) = tt
 mistakes_in M v l d (Write object input) = tt
 mistakes_in M v l d (Call name inputs outputs) = tt
-mistakes_in M v l d (For count iteration ts body) = tt
-mistakes_in M v l d (While stop iteration ts body) = tt
+mistakes_in M v l d (Loop count stop iteration ts body) = tt
 mistakes_in M v l d (Case selector ts arms) = selecting v (wire_type M d selector) (λ t. arms_mistake v t arms) (λ t. arms_in v t arms)
 mistakes_in M v l d (Sequence parts) = tt
 mistakes_in M v l d (InPlace ts body finish) = tt
@@ -116,10 +115,12 @@ misses_in M v l d (Obtain queue size item out) = tested v l 0 (is_shallow item)
 misses_in M v l d (Read object out) = tt
 misses_in M v l d (Write object input) = tt
 misses_in M v l d (Call name inputs outputs) = tt
-misses_in M v l d (For count iteration ts body) =
-    both v (unless (wire_type M d count) is_num (place v l 1)) (lines_miss M v d body (l + 1) ts) (tested v l 1 (may_be (wire_type M d count) is_num)) (lines_in M v d body (l + 1) ts)
-misses_in M v l d (While stop iteration ts body) =
-    both v (unless (wire_type M body stop) is_bool (place v l 1)) (lines_miss M v d body (l + 1) ts) (tested v l 1 (may_be (wire_type M body stop) is_bool)) (lines_in M v d body (l + 1) ts)
+misses_in M v l d (Loop count stop iteration ts body) =
+    both v (unless (wire_type M d (or_unwired count)) is_num (place v l 1))
+    (unless (wire_type M body (or_unwired stop)) is_bool (place v l (stop_operand count)) ++ lines_miss M v d body (l + 1) ts)
+    (tested v l 1 (may_be (wire_type M d (or_unwired count)) is_num))
+    (both v (unless (wire_type M body (or_unwired stop)) is_bool (place v l (stop_operand count))) (lines_miss M v d body (l + 1) ts)
+    (tested v l (stop_operand count) (may_be (wire_type M body (or_unwired stop)) is_bool)) (lines_in M v d body (l + 1) ts))
 misses_in M v l d (Case selector ts arms) = tt
 misses_in M v l d (Sequence parts) = tt
 misses_in M v l d (InPlace ts body finish) = lines_in M v d body (l + 1) ts
@@ -199,8 +200,7 @@ unlikes_in called objects M v l d (Obtain queue size item out) = tt
 unlikes_in called objects M v l d (Read object out) = tt
 unlikes_in called objects M v l d (Write object input) = unlike_in v l 1 (wire_type M d input) (objects object)
 unlikes_in called objects M v l d (Call name inputs outputs) = inputs_in M v l d 1 inputs (control_types (called name))
-unlikes_in called objects M v l d (For count iteration ts body) = news_in M v d body (l + 1) ts
-unlikes_in called objects M v l d (While stop iteration ts body) = news_in M v d body (l + 1) ts
+unlikes_in called objects M v l d (Loop count stop iteration ts body) = news_in M v d body (l + 1) ts
 unlikes_in called objects M v l d (Case selector ts arms) = results_in M v 0 arms ts
 unlikes_in called objects M v l d (Sequence parts) = tt
 unlikes_in called objects M v l d (InPlace ts body finish) = news_in M v d body (l + 1) ts
@@ -221,8 +221,7 @@ selections_in M v l d (Obtain queue size item out) = tt
 selections_in M v l d (Read object out) = tt
 selections_in M v l d (Write object input) = tt
 selections_in M v l d (Call name inputs outputs) = tt
-selections_in M v l d (For count iteration ts body) = tt
-selections_in M v l d (While stop iteration ts body) = tt
+selections_in M v l d (Loop count stop iteration ts body) = tt
 selections_in M v l d (Case selector ts arms) =
     both v (unless (wire_type M d selector) may_select (place v l 1)) (if_selecting (wire_type M d selector) (uncovered v l (selectors_of arms))) (tested v l 1 (may_be (wire_type M d selector) may_select))
     (selecting v (wire_type M d selector) (uncovered v l (selectors_of arms)) (λ t. tested v l 0 (is_complete (selectors_of arms) t)))

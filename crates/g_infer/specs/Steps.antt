@@ -2,7 +2,7 @@
 use Rattle.std.specs.Prelude.{ℕ, ◌+◌, List, [], ◌∷◌, ◌++◌, map, Option, Some, None}
 use Rattle.g_diagram.specs.declared.node.Tunnel.{Tunnel}
 use Rattle.g_diagram.specs.declared.panel.PanelItem.{PanelItem}
-use Rattle.g_diagram.specs.Lines.{Wire, Arm, Part, Kind, Entry, Shows, Write, For, While, Case, Sequence, InPlace}
+use Rattle.g_diagram.specs.Lines.{Wire, Arm, Part, Kind, Entry, Const, Apply, Shows, Shared, Obtain, Read, Write, Call, Loop, Case, Sequence, InPlace}
 use Rattle.g_diagram_table.specs.Seen.{seen, seen_arm}
 use Rattle.g_typing.specs.Typing.{next_result}
 use Rattle.g_infer.specs.declared.steps.Step.{Step}
@@ -37,12 +37,16 @@ border_forms e b ts = Opening e.diagram b None ts ∷ Closing e b ts ∷ []
 abbrev pub node_forms : Entry → Kind → List Form
 node_forms e (Shows name t input) = []
 node_forms e (Write object input) = []
-node_forms e (For count iteration ts body) = Iteration body iteration ∷ border_forms e body ts
-node_forms e (While stop iteration ts body) = Iteration body iteration ∷ border_forms e body ts
+node_forms e (Loop count stop iteration ts body) = Iteration body iteration ∷ border_forms e body ts
 node_forms e (Case selector ts arms) = arms_forms e.diagram ts arms ++ results_forms e.diagram 0 arms ts
 node_forms e (Sequence parts) = parts_forms e.diagram None parts
 node_forms e (InPlace ts body finish) = border_forms e body ts
-node_forms e _ = Plain e ∷ []
+node_forms e (Const t literal out) = Plain e ∷ []
+node_forms e (Apply p inputs outputs) = Plain e ∷ []
+node_forms e (Shared op inputs outputs) = Plain e ∷ []
+node_forms e (Obtain queue size item out) = Plain e ∷ []
+node_forms e (Read object out) = Plain e ∷ []
+node_forms e (Call name inputs outputs) = Plain e ∷ []
 
 abbrev pub entries_forms : List Entry → List Form
 entries_forms [] = []

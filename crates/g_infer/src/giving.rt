@@ -663,13 +663,7 @@ fn push_kind<'p, 'm>(
             let given = indicator_types(alloc, called(panels, *vi))?;
             push_each(alloc, givens, outside, *outputs, &given)
         }
-        Kind::For {
-            iteration,
-            lines,
-            body,
-            ..
-        } => push_loop(alloc, givens, types, ok, outside, *body, *iteration, *lines),
-        Kind::While {
+        Kind::Loop {
             iteration,
             lines,
             body,

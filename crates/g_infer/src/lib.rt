@@ -7,8 +7,6 @@ mod giving;
 pub mod infer;
 mod reads;
 mod steps;
-#[cfg(test)]
-mod tests;
 mod typed;
 mod walk;
 

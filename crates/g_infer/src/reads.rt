@@ -1,7 +1,7 @@
 //! The names that steps read.
 
 ghost use Rattle.std.specs.Prelude.{◌≡◌, ◌++◌, ◌∷◌, [], map, IfOk, OnOk};
-ghost use Rattle.std.specs.Option.{option_copied};
+ghost use Rattle.std.specs.Option.{option_copied, option_map};
 ghost use Rattle.g_diagram_table.specs.Seen.{seen_arm, seen_kind};
 ghost use Rattle.g_typing.specs.Types as types;
 ghost use Rattle.g_typing.proofs.Local as spec;
@@ -201,18 +201,34 @@ fn push_misses<'m>(
     Ok(())
 }
 
-/// A loop's own operand, and what the rule on rows reads of its lines.
-fn push_loop<'m>(
+/// An operand that some forms of a line have.
+fn push_optional<'m>(
     reads: &mut Vec<Read<'m>>,
     diagram: u32,
-    wire: &'m Wire,
+    wire: Option<&'m Wire>,
+) -> Result<(), AllocError>
+    ensures { OnOk result (map seen_read reads.new.items ≡ map seen_read reads.old.items ++ named diagram (types.or_unwired (option_map (λ w. w.now) wire.entry))) }
+{
+    match wire {
+        None => Ok(()),
+        Some(wire) => push(reads, diagram, wire),
+    }
+}
+
+/// A loop's count outside and its stop wire inside, and what the rule on rows reads of its lines.
+fn push_loop<'m>(
+    reads: &mut Vec<Read<'m>>,
     outer: u32,
     inner: u32,
+    count: Option<&'m Wire>,
+    stop: Option<&'m Wire>,
     lines: &'m [Tunnel],
 ) -> Result<(), AllocError>
-    ensures { OnOk result (map seen_read reads.new.items ≡ map seen_read reads.old.items ++ all_named ((diagram, wire.now) ∷ spec.all_miss_reads outer inner lines.now)) }
+    ensures { OnOk result (map seen_read reads.new.items ≡ map seen_read reads.old.items
+        ++ all_named ((outer, types.or_unwired (option_map (λ w. w.now) count.entry)) ∷ (inner, types.or_unwired (option_map (λ w. w.now) stop.entry)) ∷ spec.all_miss_reads outer inner lines.now)) }
 {
-    push(reads, diagram, wire)?;
+    push_optional(reads, outer, count)?;
+    push_optional(reads, inner, stop)?;
     push_misses(reads, outer, inner, lines)?;
     Ok(())
 }
@@ -225,18 +241,13 @@ fn push_node<'m>(reads: &mut Vec<Read<'m>>, entry: &'m Entry<'m>) -> Result<(), 
     match &entry.kind {
         Kind::Apply { inputs, .. } => push_each(reads, outer, *inputs),
         Kind::Shared { inputs, .. } => push_first(reads, outer, *inputs),
-        Kind::For {
+        Kind::Loop {
             count,
-            lines,
-            body,
-            ..
-        } => push_loop(reads, outer, *count, outer, *body, *lines),
-        Kind::While {
             stop,
             lines,
             body,
             ..
-        } => push_loop(reads, *body, *stop, outer, *body, *lines),
+        } => push_loop(reads, outer, *body, *count, *stop, *lines),
         Kind::InPlace { lines, body, .. } => push_misses(reads, outer, *body, *lines),
         _ => Ok(()),
     }

@@ -201,13 +201,7 @@ fn push_steps<'m>(steps: &mut Vec<Step<'m>>, entry: &'m Entry<'m>) -> Result<(),
         ≡ map seen_step steps.old.items ++ spec.node_forms (seen entry.now) (seen_kind entry.now.kind)) }
 {
     match &entry.kind {
-        Kind::For {
-            iteration,
-            lines,
-            body,
-            ..
-        } => push_loop(steps, entry, *body, *iteration, *lines),
-        Kind::While {
+        Kind::Loop {
             iteration,
             lines,
             body,

@@ -13,8 +13,9 @@ use Rattle.std.proofs.lemmas.List.Sorted.{sorted_far}
 use Rattle.g_types.specs.declared.rep.Rep.{Rep}
 use Rattle.g_types.specs.Rep.{half, size}
 use Rattle.g_diagram.specs.declared.node.Selector.{Selector}
-use Rattle.g_typing.specs.Selected.{holds, least, misses_number}
-use Rattle.g_typing.proofs.Covering.{Left, missed, only_missed}
+use Rattle.g_rules_cases.specs.Held.{has_number}
+use Rattle.g_rules_cases.specs.Searched.{least, misses_number}
+use Rattle.g_rules_cases.proofs.Covering.{Left, missed, only_missed}
 use Rattle.g_rules_types.specs.declared.gaps.Interval.{Interval}
 use Rattle.g_rules_types.specs.Gaps.{has, within, Gap, TellsGap, interval_cmp, Advances}
 
@@ -164,18 +165,18 @@ none_from low past is next i d here up gap s w = any_none (has next) is (λ j e 
 abbrev past : Rep → ℤ
 past r = pos (size r) -ℤ pos (half r)
 
-missed_by : (r : Rep) (ss : List Selector) (is : List Interval) → ((n : ℤ) → list_any (has n) is ≡ list_any (holds n) ss) → Gap (least r) (past r) is → misses_number r ss ≡ true
+missed_by : (r : Rep) (ss : List Selector) (is : List Interval) → ((n : ℤ) → list_any (has n) is ≡ list_any (has_number n) ss) → Gap (least r) (past r) is → misses_number r ss ≡ true
 missed_by r ss is same g = missed r ss g.number g.within (sym (same g.number) ∙ g.none)
 
-covered_by : (r : Rep) (ss : List Selector) (is : List Interval) → ((n : ℤ) → list_any (has n) is ≡ list_any (holds n) ss)
+covered_by : (r : Rep) (ss : List Selector) (is : List Interval) → ((n : ℤ) → list_any (has n) is ≡ list_any (has_number n) ss)
     → ((n : ℤ) → within (least r) (past r) n ≡ true → list_any (has n) is ≡ true) → (b : Bool) → misses_number r ss ≡ b → b ≡ false
 covered_by r ss is same all true e =
     let left : Left r ss = only_missed r ss e in
-    clash (list_any (holds left.number) ss) (sym (same left.number) ∙ all left.number left.in_range) left.left
+    clash (list_any (has_number left.number) ss) (sym (same left.number) ∙ all left.number left.in_range) left.left
 covered_by r ss is same all false e = refl
 
 -- a case misses a number exactly where its intervals have a gap
-pub tells_missed : (r : Rep) (ss : List Selector) (is : List Interval) (b : Bool) → ((n : ℤ) → list_any (has n) is ≡ list_any (holds n) ss)
+pub tells_missed : (r : Rep) (ss : List Selector) (is : List Interval) (b : Bool) → ((n : ℤ) → list_any (has n) is ≡ list_any (has_number n) ss)
     → TellsGap (least r) (past r) is b → b ≡ misses_number r ss
 tells_missed r ss is true same g = sym (missed_by r ss is same g)
 tells_missed r ss is false same all = sym (covered_by r ss is same all (misses_number r ss) refl)

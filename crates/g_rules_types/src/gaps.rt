@@ -3,6 +3,7 @@
 ghost use Rattle.std.specs.Prelude.{◌≡◌, ◌||◌, ◌+ℤ◌, ◌<ℤ◌, ℤ, pos, map, IfOk, OnOk, IsSorted, int_lt};
 ghost use Rattle.std.specs.List.{list_any};
 ghost use Rattle.g_diagram_table.specs.Seen.{seen_arm};
+ghost use Rattle.g_rules_cases.specs.Held as held;
 ghost use Rattle.g_typing.specs.Selected as spec;
 ghost use Rattle.g_rules_types.specs.Gaps.{has, TellsGap, Advances, interval_cmp};
 
@@ -18,7 +19,7 @@ pub struct Interval {
 }
 
 fn push_interval(intervals: &mut Vec<Interval>, selector: &Selector) -> Result<(), AllocError>
-    ensures { OnOk result ((n : ℤ) → list_any (has n) intervals.new.items ≡ (list_any (has n) intervals.old.items || spec.holds n selector.now)) }
+    ensures { OnOk result ((n : ℤ) → list_any (has n) intervals.new.items ≡ (list_any (has n) intervals.old.items || held.has_number n selector.now)) }
 {
     match selector {
         Selector::Number(number) => intervals.push(Interval {
@@ -35,7 +36,7 @@ fn push_interval(intervals: &mut Vec<Interval>, selector: &Selector) -> Result<(
 }
 
 fn push_intervals(intervals: &mut Vec<Interval>, selectors: &[Selector]) -> Result<(), AllocError>
-    ensures { OnOk result ((n : ℤ) → list_any (has n) intervals.new.items ≡ (list_any (has n) intervals.old.items || list_any (spec.holds n) selectors.now)) }
+    ensures { OnOk result ((n : ℤ) → list_any (has n) intervals.new.items ≡ (list_any (has n) intervals.old.items || list_any (held.has_number n) selectors.now)) }
 {
     for selector in selectors {
         push_interval(intervals, selector)?;
@@ -44,7 +45,7 @@ fn push_intervals(intervals: &mut Vec<Interval>, selectors: &[Selector]) -> Resu
 }
 
 fn all_intervals(alloc: Global, arms: &[Arm<'_>]) -> Result<Vec<Interval>, AllocError>
-    ensures { IfOk result (λ intervals. (n : ℤ) → list_any (has n) intervals.items ≡ list_any (spec.holds n) (spec.selectors_of (map seen_arm arms.now))) }
+    ensures { IfOk result (λ intervals. (n : ℤ) → list_any (has n) intervals.items ≡ list_any (held.has_number n) (spec.selectors_of (map seen_arm arms.now))) }
 {
     let mut intervals = Vec::new(alloc);
     for arm in arms {
@@ -56,7 +57,7 @@ fn all_intervals(alloc: Global, arms: &[Arm<'_>]) -> Result<Vec<Interval>, Alloc
 /// The numbers of the selectors of all branches, by their low ends.
 pub fn sorted_intervals(alloc: Global, arms: &[Arm<'_>]) -> Result<Vec<Interval>, AllocError>
     ensures order { IfOk result (λ intervals. IsSorted interval_cmp intervals.items) }
-    ensures same { IfOk result (λ intervals. (n : ℤ) → list_any (has n) intervals.items ≡ list_any (spec.holds n) (spec.selectors_of (map seen_arm arms.now))) }
+    ensures same { IfOk result (λ intervals. (n : ℤ) → list_any (has n) intervals.items ≡ list_any (held.has_number n) (spec.selectors_of (map seen_arm arms.now))) }
 {
     let mut intervals = all_intervals(alloc, arms)?;
     intervals.sort()?;

@@ -6,6 +6,7 @@ ghost use Rattle.std.specs.Option.{option_copied};
 ghost use Rattle.g_types.specs.Rep as reps;
 ghost use Rattle.g_types.specs.declared.ty.Ty.{out-Ty};
 ghost use Rattle.g_diagram_table.specs.Seen as table;
+ghost use Rattle.g_rules_cases.specs.Held as held;
 ghost use Rattle.g_typing.specs.Literals as spec;
 
 use crate::places::{next, place, push_unless};
@@ -47,7 +48,7 @@ pub fn past(rep: Rep) -> i128
 
 /// Whether it is a number of the representation.
 pub fn is_in_range(rep: Rep, n: i128) -> bool
-    ensures { result ≡ spec.is_in_range rep n }
+    ensures { result ≡ held.is_in_range rep n }
 {
     least(rep) <= n && n < past(rep)
 }

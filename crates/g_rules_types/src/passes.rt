@@ -15,9 +15,11 @@ use crate::kinds::is_shallow;
 use crate::literals::{is_value_of, push_case, push_panel};
 use crate::panels::{ObjectTypes, Panels, called, object};
 use crate::places::{next, place, push_unless};
-use crate::rows::{may_fit, push_count, push_lines, push_primitive, push_stop, wire_types};
+use crate::rows::{
+    may_fit, push_count, push_lines, push_primitive, push_stop, stop_operand, wire_types,
+};
 use crate::selected::push_selection;
-use crate::types::{WireTypes, type_at, wire_type};
+use crate::types::{WireTypes, optional_type, type_at, wire_type};
 use g_diagram::{Break, PanelItem, Place};
 use g_diagram_table::{Entry, Kind};
 use std::alloc::{AllocError, Global};
@@ -87,26 +89,16 @@ pub fn push_misses<'m>(
             push_unless(places, fits, place(vi, line, 1))
         }
         Kind::Obtain { item, .. } => { push_unless(places, is_shallow(*item), place(vi, line, 0)) }
-        Kind::For {
+        Kind::Loop {
             count,
-            lines,
-            body,
-            ..
-        } => {
-            push_count(
-                places,
-                wire_type(types, outside, *count),
-                place(vi, line, 1),
-            )?;
-            push_lines(places, types, vi, outside, *body, next(line)?, *lines)
-        }
-        Kind::While {
             stop,
             lines,
             body,
             ..
         } => {
-            push_stop(places, wire_type(types, *body, *stop), place(vi, line, 1))?;
+            let (counted, stopped) = (place(vi, line, 1), place(vi, line, stop_operand(*count)));
+            push_count(places, optional_type(types, outside, *count), counted)?;
+            push_stop(places, optional_type(types, *body, *stop), stopped)?;
             push_lines(places, types, vi, outside, *body, next(line)?, *lines)
         }
         Kind::InPlace { lines, body, .. } => {
@@ -174,10 +166,7 @@ fn push_unlikes<'p, 'm>(
             inputs,
             ..
         } => push_shared(places, types, vi, line, outside, *operation, *inputs),
-        Kind::For { lines, body, .. } => {
-            push_new_values(places, types, vi, outside, *body, next(line)?, *lines)
-        }
-        Kind::While { lines, body, .. } => {
+        Kind::Loop { lines, body, .. } => {
             push_new_values(places, types, vi, outside, *body, next(line)?, *lines)
         }
         Kind::InPlace { lines, body, .. } => {

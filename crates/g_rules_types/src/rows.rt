@@ -1,7 +1,7 @@
 //! Rule 16: the places at which the types of the inputs have no row.
 
 ghost use Rattle.std.specs.Prelude.{◌≡◌, ◌++◌, IfOk, OnOk};
-ghost use Rattle.std.specs.Option.{option_copied};
+ghost use Rattle.std.specs.Option.{option_copied, option_map};
 ghost use Rattle.g_prims_definitions.specs.Kinds as kinds;
 ghost use Rattle.g_prims_definitions.specs.Rows as rows;
 ghost use Rattle.g_types.specs.Ty as the_types;
@@ -14,6 +14,7 @@ use crate::places::{next, place, push_unless};
 use crate::types::{WireTypes, wire_type};
 use g_diagram::{Place, SharedOp, Tunnel, Wire};
 use g_lists::List;
+use g_operations::{Count, primitive_row};
 use g_prims::kinds::{is_bool, is_num};
 use g_prims::{RowRefused, type_row};
 use g_types::{Ty, TyList, copy};
@@ -113,13 +114,21 @@ pub fn wire_types<'m>(
     Ok(Some(List::from_vec(all)))
 }
 
+/// Whether there are as many outputs as the types give, where an operation's form leaves it open.
+fn given_fit(count: Count, outputs: usize, given: usize) -> bool
+    ensures { result ≡ spec.given_fit count outputs given }
+{
+    match count {
+        Count::Exactly(_) | Count::Between(_, _) => true,
+        Count::Any => outputs == given,
+    }
+}
+
 fn outputs_fit(primitive: Primitive, outputs: usize, given: usize) -> bool
     ensures { result ≡ spec.outputs_fit primitive outputs given }
 {
-    match primitive {
-        Primitive::Unbundle => outputs == given,
-        _ => true,
-    }
+    let row = primitive_row(primitive);
+    given_fit(row.outputs, outputs, given)
 }
 
 /// A primitive with so many outputs and inputs of these types.
@@ -226,14 +235,24 @@ pub fn push_lines<'m>(
     Ok(())
 }
 
-/// The count of a For Loop.
+/// The count of a loop.
 pub fn push_count(places: &mut Vec<Place>, ty: Option<&Ty>, place: Place) -> Result<(), AllocError>
     ensures { OnOk result (places.new.items ≡ places.old.items ++ spec.unless (option_copied ty.entry) the_types.is_num place) }
 {
     push_unless(places, may_be_num(ty), place)
 }
 
-/// The stop wire of a While Loop.
+/// The operand of a loop's stop wire, which stands after its count.
+pub fn stop_operand(count: Option<&Wire>) -> u32
+    ensures { result ≡ spec.stop_operand (option_map (λ w. w.now) count.entry) }
+{
+    match count {
+        None => 1,
+        Some(_) => 2,
+    }
+}
+
+/// The stop wire of a loop.
 pub fn push_stop(places: &mut Vec<Place>, ty: Option<&Ty>, place: Place) -> Result<(), AllocError>
     ensures { OnOk result (places.new.items ≡ places.old.items ++ spec.unless (option_copied ty.entry) kinds.is_bool place) }
 {

@@ -4,6 +4,8 @@ ghost use Rattle.std.specs.Prelude.{◌≡◌, ◌++◌, map, not, IfOk, OnOk};
 ghost use Rattle.std.specs.List.{list_any};
 ghost use Rattle.std.specs.Option.{option_copied};
 ghost use Rattle.g_diagram_table.specs.Seen.{seen_arm};
+ghost use Rattle.g_rules_cases.specs.Held as held;
+ghost use Rattle.g_rules_cases.specs.Searched as searched;
 ghost use Rattle.g_typing.specs.Literals as literals;
 ghost use Rattle.g_typing.specs.Rows as rows;
 ghost use Rattle.g_typing.specs.Selected as spec;
@@ -18,7 +20,7 @@ use g_types::{Rep, Ty};
 use std::alloc::{AllocError, Global};
 
 fn tells(truth: bool, selector: &Selector) -> bool
-    ensures { result ≡ spec.tells truth selector.now }
+    ensures { result ≡ held.tells truth selector.now }
 {
     match selector {
         Selector::Truth(other) => { if truth { *other } else { !*other } }
@@ -27,7 +29,7 @@ fn tells(truth: bool, selector: &Selector) -> bool
 }
 
 fn is_default(selector: &Selector) -> bool
-    ensures { result ≡ spec.is_default selector.now }
+    ensures { result ≡ held.is_default selector.now }
 {
     match selector {
         Selector::Default => true,
@@ -36,13 +38,13 @@ fn is_default(selector: &Selector) -> bool
 }
 
 fn any_tells(truth: bool, selectors: &[Selector]) -> bool
-    ensures { result ≡ list_any (spec.tells truth) selectors.now }
+    ensures { result ≡ list_any (held.tells truth) selectors.now }
 {
     selectors.iter().any(|selector| tells(truth, selector))
 }
 
 fn any_is_default(selectors: &[Selector]) -> bool
-    ensures { result ≡ list_any spec.is_default selectors.now }
+    ensures { result ≡ list_any held.is_default selectors.now }
 {
     selectors.iter().any(|selector| is_default(selector))
 }
@@ -50,7 +52,7 @@ fn any_is_default(selectors: &[Selector]) -> bool
 /// Whether a branch has a truth value.
 #[tactic(auto, using(crate::proofs::Branches::any_more))]
 fn some_tell(truth: bool, arms: &[Arm<'_>]) -> bool
-    ensures { result ≡ list_any (spec.tells truth) (spec.selectors_of (map seen_arm arms.now)) }
+    ensures { result ≡ list_any (held.tells truth) (spec.selectors_of (map seen_arm arms.now)) }
 {
     for arm in arms {
         if any_tells(truth, arm.selectors) {
@@ -63,7 +65,7 @@ fn some_tell(truth: bool, arms: &[Arm<'_>]) -> bool
 /// Whether a branch is taken by default.
 #[tactic(auto, using(crate::proofs::Branches::any_more))]
 fn some_default(arms: &[Arm<'_>]) -> bool
-    ensures { result ≡ list_any spec.is_default (spec.selectors_of (map seen_arm arms.now)) }
+    ensures { result ≡ list_any held.is_default (spec.selectors_of (map seen_arm arms.now)) }
 {
     for arm in arms {
         if any_is_default(arm.selectors) {
@@ -76,14 +78,14 @@ fn some_default(arms: &[Arm<'_>]) -> bool
 /// Whether some number of the representation is in no branch.
 #[tactic(auto, using(crate::proofs::Sweeping::tells_missed))]
 fn misses_number<'m>(alloc: Global, rep: Rep, arms: &'m [Arm<'m>]) -> Result<bool, AllocError>
-    ensures { IfOk result (λ misses. misses ≡ spec.misses_number rep (spec.selectors_of (map seen_arm arms.now))) }
+    ensures { IfOk result (λ misses. misses ≡ searched.misses_number rep (spec.selectors_of (map seen_arm arms.now))) }
 {
     let intervals = sorted_intervals(alloc, arms)?;
     Ok(has_gap(least(rep), past(rep), intervals.as_slice()))
 }
 
 fn covers_numbers<'m>(alloc: Global, rep: Rep, arms: &'m [Arm<'m>]) -> Result<bool, AllocError>
-    ensures { IfOk result (λ covers. covers ≡ not (spec.misses_number rep (spec.selectors_of (map seen_arm arms.now)))) }
+    ensures { IfOk result (λ covers. covers ≡ not (searched.misses_number rep (spec.selectors_of (map seen_arm arms.now)))) }
 {
     let misses = misses_number(alloc, rep, arms)?;
     Ok(!misses)
@@ -91,7 +93,7 @@ fn covers_numbers<'m>(alloc: Global, rep: Rep, arms: &'m [Arm<'m>]) -> Result<bo
 
 /// Whether the branches have all values of the type.
 fn covers<'m>(alloc: Global, ty: &Ty, arms: &'m [Arm<'m>]) -> Result<bool, AllocError>
-    ensures { IfOk result (λ covers. covers ≡ spec.covers (spec.selectors_of (map seen_arm arms.now)) ty.now) }
+    ensures { IfOk result (λ covers. covers ≡ searched.covers (spec.selectors_of (map seen_arm arms.now)) ty.now) }
 {
     match ty {
         Ty::Num(rep) => covers_numbers(alloc, *rep, arms),
@@ -100,13 +102,22 @@ fn covers<'m>(alloc: Global, ty: &Ty, arms: &'m [Arm<'m>]) -> Result<bool, Alloc
     }
 }
 
-fn is_complete<'m>(alloc: Global, ty: &Ty, arms: &'m [Arm<'m>]) -> Result<bool, AllocError>
-    ensures { IfOk result (λ complete. complete ≡ spec.is_complete (spec.selectors_of (map seen_arm arms.now)) ty.now) }
+fn leaves_none<'m>(alloc: Global, ty: &Ty, arms: &'m [Arm<'m>]) -> Result<bool, AllocError>
+    ensures { IfOk result (λ none. none ≡ searched.leaves_none (spec.selectors_of (map seen_arm arms.now)) ty.now) }
 {
     if some_default(arms) {
         return Ok(true);
     }
     covers(alloc, ty, arms)
+}
+
+/// Whether each value of the type has a branch.
+#[tactic(auto, using(crate::proofs::Branches::is_found))]
+fn is_complete<'m>(alloc: Global, ty: &Ty, arms: &'m [Arm<'m>]) -> Result<bool, AllocError>
+    ensures { IfOk result (λ complete. complete ≡ spec.is_complete (spec.selectors_of (map seen_arm arms.now)) ty.now) }
+{
+    let none = leaves_none(alloc, ty, arms)?;
+    Ok(none)
 }
 
 fn may_be_selected(ty: Option<&Ty>) -> bool

@@ -1,7 +1,8 @@
 use Rattle.std.proofs.Common.{◌≡◌, drop, map}
 use Rattle.std.specs.List.{list_any}
 use Rattle.g_diagram_table.specs.Seen.{seen_arm}
-use Rattle.g_typing.specs.Selected.{tells, selectors_of}
+use Rattle.g_rules_cases.specs.Held.{tells}
+use Rattle.g_typing.specs.Selected.{selectors_of}
 use Rattle.g_rules_types.proofs.selected.some_tell.Given as goal
 
 abbrev pub invariant-loop-arm : goal.invariant-loop-arm
