@@ -7,6 +7,3 @@ mod node_words;
 mod vis;
 
 pub use listing::{ListingRefused, read_listing};
-
-#[cfg(test)]
-mod tests;

@@ -1,6 +1,3 @@
-pub mod Completed
-pub mod Good
-pub mod Over
 pub mod Examples
 pub mod LiveBorders
 pub mod LiveListing

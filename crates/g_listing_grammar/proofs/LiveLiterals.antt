@@ -3,8 +3,7 @@ use Rattle.std.proofs.Common.{◌≡◌, ℕ, zero, suc, Bool, true, false, [], 
 use Rattle.std.specs.Prelude.{pos}
 use Rattle.std.proofs.lemmas.Bool.{lt-ltb}
 use Rattle.g_grammar.specs.Grammar.{Grammar, take, loop, ◌>>=◌, or_else}
-use Rattle.g_grammar.proofs.Live.{either_left, live_give, live_bind}
-use Rattle.g_listing_grammar.proofs.Completed.{Live, live_loop, live_choice}
+use Rattle.g_grammar.proofs.Live.{Live, either_left, live_give, live_bind, live_loop, live_choice}
 use Rattle.g_diagram.specs.declared.panel.Lit.{Lit}
 use Rattle.g_listing_grammar.specs.declared.LiteralFirst.{LiteralFirst}
 use Rattle.g_listing_grammar.specs.declared.LiteralFirst.TheVariants as begin
@@ -22,7 +21,7 @@ live_next g live true = live_bind live λ x. live_give (inl x)
 live_next g live false = live_give (inr tt)
 
 live_items : (g : Grammar Token Lit) → Live g → Live (loop comma_or_bracket (next_item g))
-live_items g live = live_loop comma_or_bracket (next_item g) (λ t again e. live_next g live again) (token.Mark mark.CloseBracket) tt false [] tt refl (refl, refl)
+live_items g live = live_loop comma_or_bracket (next_item g) (λ t again e. live_next g live again) (token.Mark mark.CloseBracket) false [] tt refl (refl, refl)
 
 -- a literal after its first token, where literals can stand inside, or none can
 live_array : (inside : Token → Option LiteralFirst) (rest : LiteralFirst → Grammar Token Lit) → ((t : Token) (c : LiteralFirst) → inside t ≡ Some c → Live (rest c))
@@ -58,16 +57,16 @@ closes n = refl
 -- where literals of so many levels go on
 live_go : (n : ℕ) (arrays : Bool) → ((t : Token) (arrays : Bool) (c : LiteralFirst) → literal_first (suc n) arrays t ≡ Some c → Live (literal_rest (suc n) c)) → Live (literals (suc n) arrays)
 live_go n arrays live =
-    live_choice (literal_first (suc n) arrays) (literal_rest (suc n)) (token.Number (pos 0)) (omega arith) (begin.Whole (lit.Number (pos 0))) (fits n arrays) (λ t c e. live t arrays c e)
+    live_choice (literal_first (suc n) arrays) (literal_rest (suc n)) (token.Number (pos 0)) (begin.Whole (lit.Number (pos 0))) (fits n arrays) (λ t c e. live t arrays c e)
 
 pub live_literal_rest : (n : ℕ) (t : Token) (arrays : Bool) (c : LiteralFirst) → literal_first (suc n) arrays t ≡ Some c → Live (literal_rest (suc n) c)
 unfolding literal_rest
 live_literal_rest n t arrays (begin.Whole l) e = live_give l
 live_literal_rest zero t arrays begin.Array e =
-    live_choice (or_else (literal_first 0 false) close_bracket) (array_rest (literal_rest 0) (literals 0 false)) (token.Mark mark.CloseBracket) tt (inr tt) (closes 0)
+    live_choice (or_else (literal_first 0 false) close_bracket) (array_rest (literal_rest 0) (literals 0 false)) (token.Mark mark.CloseBracket) (inr tt) (closes 0)
     (live_array (literal_first 0 false) (literal_rest 0) (λ t c f. absurd (fits_none (literal_word false t) c f)) (λ t c f. absurd (fits_none (literal_word false t) c f)))
 live_literal_rest (suc n) t arrays begin.Array e =
-    live_choice (or_else (literal_first (suc n) false) close_bracket) (array_rest (literal_rest (suc n)) (literals (suc n) false)) (token.Mark mark.CloseBracket) tt (inr tt) (closes (suc n))
+    live_choice (or_else (literal_first (suc n) false) close_bracket) (array_rest (literal_rest (suc n)) (literals (suc n) false)) (token.Mark mark.CloseBracket) (inr tt) (closes (suc n))
     (live_array (literal_first (suc n) false) (literal_rest (suc n)) (λ t c f. live_literal_rest n t false c f) (λ t c f. live_go n false (live_literal_rest n)))
 live_literal_rest zero t arrays begin.Cluster e = absurd (no_cluster (literal_word arrays t) e)
 live_literal_rest (suc n) t arrays begin.Cluster e =

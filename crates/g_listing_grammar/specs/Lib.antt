@@ -1,4 +1,3 @@
-pub mod Bytes
 pub mod Words
 pub mod Types
 pub mod Literals

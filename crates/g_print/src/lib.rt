@@ -6,7 +6,7 @@ ghost use Rattle.std.specs.Prelude.{◌≡◌, ◌++◌, ℕ, List, OnOk, IfOk};
 ghost use Rattle.g_diagram.specs.Text as spec;
 ghost use Rattle.g_diagram.specs.declared.hierarchy.Hierarchy.{Hierarchy as Whole};
 ghost use Rattle.g_listing_grammar.specs.Listing.{IsListing};
-ghost use Rattle.g_listing_grammar.specs.Bytes.{IsBytes};
+ghost use Rattle.g_print_laws.specs.Bytes.{IsBytes};
 
 mod borders;
 mod literals;
@@ -53,102 +53,4 @@ fn write_vi(page: &mut Page, vi: &Vi) -> Result<(), AllocError>
     panel::write_items(page, vi.panel.as_slice())?;
     nodes::write_diagram(page, 1, &vi.top)?;
     page.bare_line(0, b"end")
-}
-
-#[cfg(test)]
-mod tests {
-    use super::*;
-    use g_diagram::{
-        Branch, Clones, Diagram, Lit, Node, PanelItem, Selector, System, Tunnel, Wire,
-    };
-    use g_lists::List;
-    use g_types::{Name, Rep, Ty};
-    use std::test::Fail;
-
-    const LISTING: &[u8] = b"glisting 1
-vi Main nonreentrant same
-  control a i32 required = -3 -> a
-  for a -> _
-    register _ [u8] -> c | e -> _
-  do
-    case c
-      result e
-    when 1..4, default
-      give c
-    end
-  end
-end
-";
-
-    fn wire(alloc: Global, name: &[u8]) -> Result<Wire, AllocError> {
-        Ok(Some(Name::from_slice(alloc, name)?))
-    }
-
-    fn branch(alloc: Global) -> Result<Branch, AllocError> {
-        Ok(Branch {
-            selectors: List::from_vec(vec![in alloc; Selector::Range(1, 4), Selector::Default]?),
-            gives: List::from_vec(vec![in alloc; wire(alloc, b"c")?]?),
-            body: Diagram {
-                nodes: List::new(alloc),
-            },
-        })
-    }
-
-    fn case(alloc: Global) -> Result<Node, AllocError> {
-        let result = Tunnel::Result {
-            outer: wire(alloc, b"e")?,
-            default: false,
-        };
-        Ok(Node::Case {
-            selector: wire(alloc, b"c")?,
-            lines: List::from_vec(vec![in alloc; result]?),
-            branches: List::from_vec(vec![in alloc; branch(alloc)?]?),
-        })
-    }
-
-    fn repeated(alloc: Global) -> Result<Node, AllocError> {
-        let register = Tunnel::Kept {
-            ty: Ty::Arr(g_lists::Boxed::new(alloc, Ty::Num(Rep::U8))?),
-            inner: wire(alloc, b"c")?,
-            next: wire(alloc, b"e")?,
-            last: None,
-        };
-        Ok(Node::For {
-            count: wire(alloc, b"a")?,
-            iteration: None,
-            lines: List::from_vec(vec![in alloc; register]?),
-            body: Diagram {
-                nodes: List::from_vec(vec![in alloc; case(alloc)?]?),
-            },
-        })
-    }
-
-    fn main_vi(alloc: Global) -> Result<Vi, AllocError> {
-        let control = PanelItem::Control {
-            name: Name::from_slice(alloc, b"a")?,
-            ty: Ty::Num(Rep::I32),
-            required: true,
-            default: Some(Lit::Number(-3)),
-            out: wire(alloc, b"a")?,
-        };
-        Ok(Vi {
-            name: Name::from_slice(alloc, b"Main")?,
-            clones: Clones::NonReentrant,
-            system: System::Same,
-            panel: List::from_vec(vec![in alloc; control]?),
-            top: Diagram {
-                nodes: List::from_vec(vec![in alloc; repeated(alloc)?]?),
-            },
-        })
-    }
-
-    #[test]
-    fn writes_a_loop_and_a_case(rt: HostRuntime) -> Result<(), Fail> {
-        let h = Hierarchy {
-            vis: List::from_vec(vec![in rt.alloc(); main_vi(rt.alloc())?]?),
-        };
-        let text = print_listing(rt.alloc(), &h)?;
-        assert!(rt; text.as_slice() == LISTING);
-        Ok(())
-    }
 }

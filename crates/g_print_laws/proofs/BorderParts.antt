@@ -4,7 +4,6 @@ use Rattle.std.specs.Prelude.{◌⊎◌, nat_le}
 use Rattle.std.specs.Fmt.{decimal}
 use Rattle.g_grammar.specs.Grammar.{Grammar, take, or_else}
 use Rattle.g_types.specs.Ty as types_spec
-use Rattle.g_listing_grammar.proofs.Good.{IsWord}
 use Rattle.g_tokens.specs.declared.token.Token.{Token}
 use Rattle.g_tokens.specs.declared.token.Token.TheVariants as token
 use Rattle.g_diagram.specs.declared.node.Tunnel.{Tunnel}
@@ -19,7 +18,7 @@ use Rattle.g_listing_grammar.specs.Types.{types}
 use Rattle.g_listing_grammar.specs.Literals.{literals}
 use Rattle.g_listing_grammar.specs.Borders.{register_rest, result_end, line_rest, line_or_end, lines_of, lines_to}
 use Rattle.g_listing_words.specs.Operations.{lookup}
-use Rattle.g_print_laws.proofs.Lexing.{Inside, Full, space, word_piece, starts}
+use Rattle.g_print_laws.proofs.Lexing.{Inside, Full, IsWord, space, word_piece, starts}
 use Rattle.g_print_laws.proofs.NumberPieces.{number_piece}
 use Rattle.g_print_laws.proofs.Tables.{holds, named}
 use Rattle.g_print_laws.proofs.Parts.{State, Rest, Rested, Filled, Either, either_text, EndOf, chain, chain_end, Says, Goes, alike, gives, binds, binds_on, closes, one, loops, Stands, stands_or, some_is, a_word, a_feed, stands_text, wire_says, arrow_says, eol_says, last_wire_says, across_says, turned_says, through_says}

@@ -7,7 +7,6 @@ use Rattle.std.proofs.lemmas.Bool.{and_parts}
 use Rattle.std.proofs.lemmas.Bool.Decides.{nat_tests}
 use Rattle.std.proofs.lemmas.List.{map-append}
 use Rattle.std.proofs.lemmas.List.Folds.{list_all-append}
-use Rattle.g_listing_grammar.proofs.Good.{AreGood, IsGood, IsShort}
 use Rattle.g_tokens.specs.declared.token.Token.{Token}
 use Rattle.g_tokens.specs.declared.token.Token.TheVariants as token
 use Rattle.g_tokens.specs.declared.token.Mark.{Mark}
@@ -19,10 +18,11 @@ use Rattle.g_tokens.specs.declared.texts.Step.{Step}
 use Rattle.g_tokens.specs.declared.texts.Step.TheVariants as step
 use Rattle.g_tokens.specs.Tokens.{is_letter, is_digit, is_word_byte, is_space, begins, word, digits_value, minus, digits_of, numeral, number, hex, first_digit, two_digits, in_text, byte_before, closed, after_step, characters, as_text, text, mark_in, mark_texts, or_none, whole, longer_or, longest, front, at_gap, lexemes, line_rest, line_tokens, content, cut, placed, lines, lines_tokens, placed_tokens, tokens_of}
 use Rattle.g_tokens.proofs.Numerals.{next_below, below_twenty, first_all, rest_all}
-use Rattle.g_listing_grammar.specs.Bytes.{IsBytes}
+use Rattle.g_print_laws.specs.Bytes.{IsBytes}
 use Rattle.g_print_laws.proofs.Lexing.{both}
+use Rattle.g_print_laws.proofs.NumberPieces.{IsShort}
 use Rattle.g_print_laws.proofs.TextPieces.{is_byte}
-use Rattle.g_print_laws.proofs.Parts.{some_is}
+use Rattle.g_print_laws.proofs.Parts.{IsGood, AreGood, some_is}
 
 abbrev AllGood : Option Token → Type 0
 AllGood None = Unit {0}

@@ -6,7 +6,6 @@ use Rattle.std.proofs.Math.Seq.{drop-append_seam}
 use Rattle.std.proofs.lemmas.Bool.{and_parts, eqb-true}
 use Rattle.std.proofs.lemmas.List.{append-nil, map-append}
 use Rattle.std.proofs.lemmas.List.Folds.{list_all-append}
-use Rattle.g_listing_grammar.proofs.Good.{IsWord}
 use Rattle.g_tokens.specs.declared.token.Token.{Token}
 use Rattle.g_tokens.specs.declared.token.Token.TheVariants as token
 use Rattle.g_tokens.specs.declared.token.Mark.{Mark}
@@ -96,6 +95,11 @@ bound_line p [] bytes below e h = refl
 bound_line p (b ∷ line) bytes below e h = sym (ap (begins p) e) ∙ h
 
 -- ---- words
+
+pub record IsWord (w : List ℕ) : Type 0 where
+  pub letter : begins is_letter w ≡ true
+  pub all : list_all is_word_byte w ≡ true
+  pub short : length w ≤ 64
 
 pub prefix_is : (p : ℕ → Bool) (w line : List ℕ) → list_all p w ≡ true → begins p line ≡ false → prefix_len p (w ++ line) ≡ length w
 prefix_is p [] [] h e = refl

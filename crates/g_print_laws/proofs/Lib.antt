@@ -1,6 +1,5 @@
 pub mod TextLemmas
 pub mod Lexing
-pub mod Following
 pub mod NumberPieces
 pub mod TextPieces
 pub mod Parts

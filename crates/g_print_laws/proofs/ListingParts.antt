@@ -6,7 +6,6 @@ use Rattle.std.proofs.lemmas.Bool.Decides.{nat_tests}
 use Rattle.std.proofs.lemmas.Fmt.{decimal_digit}
 use Rattle.g_grammar.specs.Grammar.{Has, Phrases, take, or_else, tail, ◌>>=◌}
 use Rattle.g_grammar.proofs.Laws.{first_is, ends, same}
-use Rattle.g_listing_grammar.proofs.Good.{AreGood, IsGood, IsWord}
 use Rattle.g_tokens.specs.declared.token.Token.{Token}
 use Rattle.g_tokens.specs.declared.token.Token.TheVariants as token
 use Rattle.g_diagram.specs.declared.hierarchy.Clones.{Clones}
@@ -23,10 +22,10 @@ use Rattle.g_listing_grammar.specs.declared.ClonesWord.TheVariants as clones_wor
 use Rattle.g_listing_grammar.specs.Words.{word, name, eol, between, pool_size, version}
 use Rattle.g_listing_grammar.specs.Listing.{Kind, header_word, system_or_eol, system_end, after_clones, kind_rest, vi_rest, vi_word, at_end, vi_or_end, vis, listing, HasHierarchy, IsListing}
 use Rattle.g_tokens.specs.Tokens.{tokens_of, placed_tokens}
-use Rattle.g_listing_grammar.specs.Bytes.{IsBytes}
-use Rattle.g_print_laws.proofs.Lexing.{Full, Inside, finish, space}
+use Rattle.g_print_laws.specs.Bytes.{IsBytes}
+use Rattle.g_print_laws.proofs.Lexing.{Full, Inside, IsWord, finish, space}
 use Rattle.g_print_laws.proofs.NumberPieces.{number_piece}
-use Rattle.g_print_laws.proofs.Parts.{Rest, after, a_word, a_feed, stands_name}
+use Rattle.g_print_laws.proofs.Parts.{Rest, IsGood, AreGood, after, a_word, a_feed, stands_name}
 use Rattle.g_print_laws.proofs.BorderParts.{a_line, between_is}
 use Rattle.g_print_laws.proofs.PanelParts.{body, body_text, body_says}
 use Rattle.g_print_laws.proofs.GoodTokens.{tokens_good}

@@ -2,7 +2,6 @@
 use Rattle.std.proofs.Common.{◌≡◌, ℕ, zero, suc, ◌-◌, Bool, true, false, cond, List, [], ◌∷◌, ◌++◌, map, Option, Some, None, refl, sym, ap, ◌∙◌, subst, codes, inl, inr}
 use Rattle.std.specs.Prelude.{◌⊎◌}
 use Rattle.g_grammar.specs.Grammar.{Grammar, take, loop, nothing, or_else}
-use Rattle.g_listing_grammar.proofs.Good.{IsWord}
 use Rattle.g_tokens.specs.declared.token.Token.{Token}
 use Rattle.g_tokens.specs.declared.token.Token.TheVariants as token
 use Rattle.g_tokens.specs.declared.token.Mark.TheVariants as mark
@@ -15,7 +14,7 @@ use Rattle.g_listing_grammar.specs.declared.LiteralFirst.TheVariants as begin
 use Rattle.g_listing_grammar.specs.Words.{close_bracket, comma_or_bracket}
 use Rattle.g_listing_grammar.specs.Types.{is_above}
 use Rattle.g_listing_grammar.specs.Literals.{literal_words, literal_word, fitting_literal, literal_first, next_item, array_rest, literal_rest_of, literal_rest, literals}
-use Rattle.g_print_laws.proofs.Lexing.{Inside, word_piece, mark_piece}
+use Rattle.g_print_laws.proofs.Lexing.{Inside, IsWord, word_piece, mark_piece}
 use Rattle.g_print_laws.proofs.NumberPieces.{number_piece}
 use Rattle.g_print_laws.proofs.TextPieces.{text_piece}
 use Rattle.g_print_laws.proofs.Tables.{holds}

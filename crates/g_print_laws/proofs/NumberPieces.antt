@@ -7,12 +7,16 @@ use Rattle.std.proofs.lemmas.Bool.Decides.{nat_tests}
 use Rattle.std.proofs.lemmas.Bool.{and_parts}
 use Rattle.std.proofs.lemmas.Fmt.{decimal_by_steps_wide, length-decimal-le_wide}
 use Rattle.std.proofs.lemmas.List.Folds.{list_all-append}
-use Rattle.g_listing_grammar.proofs.Good.{IsShort}
 use Rattle.g_tokens.specs.declared.token.Token.{Token}
 use Rattle.g_tokens.specs.declared.token.Token.TheVariants as token
 use Rattle.g_tokens.specs.Tokens.{is_digit, is_word_byte, begins, digits_value, numeral, IsFront}
 use Rattle.g_tokens.proofs.Numerals.{plain, signed}
 use Rattle.g_print_laws.proofs.Lexing.{Bound, Inside, is_inner, not_at, both, prefix_is, take_front, bound_line, piece}
+
+-- a number that a token can be
+abbrev pub IsShort : ℤ → Type 0
+IsShort (pos n) = n < 10 ^ 20
+IsShort (negsuc n) = suc n < 10 ^ 20
 
 record IsDigits (n : ℕ) (ds : List ℕ) : Type 0 where
   all : list_all is_digit ds ≡ true

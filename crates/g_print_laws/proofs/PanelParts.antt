@@ -3,7 +3,6 @@ use Rattle.std.proofs.Common.{◌≡◌, ℕ, Bool, true, false, List, [], ◌�
 use Rattle.g_grammar.specs.Grammar.{Grammar, take, give, loop, or_else, ◌>>=◌}
 use Rattle.g_types.specs.Ty as types_spec
 use Rattle.g_types.specs.declared.ty.Ty.{Ty}
-use Rattle.g_listing_grammar.proofs.Good.{IsWord}
 use Rattle.g_tokens.specs.declared.token.Token.{Token}
 use Rattle.g_tokens.specs.declared.token.Token.TheVariants as token
 use Rattle.g_tokens.specs.declared.token.Mark.TheVariants as mark
@@ -20,7 +19,7 @@ use Rattle.g_listing_grammar.specs.declared.Until.TheVariants as until
 use Rattle.g_listing_grammar.specs.Words.{word_in, feeds, equals_or_arrow, eol}
 use Rattle.g_listing_grammar.specs.Nodes.{node_first, node_rest}
 use Rattle.g_listing_grammar.specs.Listing.{Kind, panel_words, control_mark, default_rest, control_rest, panel_rest, end, Begin, body_first, body_item, nodes_after}
-use Rattle.g_print_laws.proofs.Lexing.{Inside, Full, space}
+use Rattle.g_print_laws.proofs.Lexing.{Inside, Full, IsWord, space}
 use Rattle.g_print_laws.proofs.Tables.{holds, named}
 use Rattle.g_print_laws.proofs.Parts.{State, Rest, Rested, Filled, Either, either_text, EndOf, chain, chain_end, Says, Goes, gives, binds, binds_on, closes, one, loops, Stands, stands_or, a_word, a_mark, an_arrow, stands_feeds, stands_equals_or_arrow, EqualsOrArrow, equals_or_arrow_text, name_says, eol_says, last_wire_says, to_wire_says}
 use Rattle.g_print_laws.proofs.LiteralParts.{literals_says}

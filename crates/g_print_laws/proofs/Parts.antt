@@ -1,7 +1,6 @@
 -- What one token of a phrase stands for in front of bytes.
 use Rattle.std.proofs.Common.{◌≡◌, ℕ, Bool, true, false, List, [], ◌∷◌, ◌++◌, ℤ, Option, Some, None, refl, sym, ap, ◌∙◌, subst, inl, inr}
 use Rattle.std.specs.Prelude.{◌⊎◌, codes}
-use Rattle.g_listing_grammar.proofs.Good.{AreGood, IsGood, IsWord}
 use Rattle.g_tokens.specs.Tokens.{is_word_byte}
 use Rattle.g_tokens.specs.Scan.{mark_alone}
 use Rattle.std.specs.Fmt.{signed_decimal}
@@ -17,10 +16,21 @@ use Rattle.g_listing_grammar.specs.Words.{name, wire, eol, feeds, arrow, bar, nu
 use Rattle.g_listing_grammar.specs.Words.{text as text_of_token}
 use Rattle.g_listing_grammar.specs.Nodes.{dots}
 use Rattle.g_listing_grammar.specs.Borders.{item_or_end, wires_to, outputs, operands, last_wire, to_wire, across, turned, through}
-use Rattle.g_listing_grammar.specs.Bytes.{IsBytes}
-use Rattle.g_print_laws.proofs.Lexing.{Bound, Full, Inside, IsPiece, feed, space, word_piece, mark_piece, arrow_piece, feeds_piece, dots_piece}
-use Rattle.g_print_laws.proofs.NumberPieces.{number_piece}
+use Rattle.g_print_laws.specs.Bytes.{IsBytes}
+use Rattle.g_print_laws.proofs.Lexing.{Bound, Full, Inside, IsPiece, IsWord, feed, space, word_piece, mark_piece, arrow_piece, feeds_piece, dots_piece}
+use Rattle.g_print_laws.proofs.NumberPieces.{IsShort, number_piece}
 use Rattle.g_print_laws.proofs.TextPieces.{text_piece}
+
+-- tokens that bytes can have
+abbrev pub IsGood : Token → Type 0
+IsGood (token.Word w) = IsWord w
+IsGood (token.Number z) = IsShort z
+IsGood (token.Text v) = IsBytes v
+IsGood _ = Unit {0}
+
+abbrev pub AreGood : List Token → Type 0
+AreGood [] = Unit {0}
+AreGood (t ∷ ts) = IsGood t × AreGood ts
 
 -- bytes that go on with no word and no number, inside a line
 pub record Rest (bytes : List ℕ) (ts : List Token) : Type 0 where

@@ -3,7 +3,6 @@ use Rattle.std.proofs.Common.{◌≡◌, ℕ, Bool, true, false, List, [], ◌�
 use Rattle.std.specs.Prelude.{◌⊎◌}
 use Rattle.std.specs.Fmt.{signed_decimal}
 use Rattle.g_grammar.specs.Grammar.{give, or_else}
-use Rattle.g_listing_grammar.proofs.Good.{IsWord}
 use Rattle.g_tokens.specs.declared.token.Token.{Token}
 use Rattle.g_tokens.specs.declared.token.Token.TheVariants as token
 use Rattle.g_diagram.specs.declared.node.Selector.{Selector}
@@ -14,7 +13,7 @@ use Rattle.g_listing_grammar.specs.declared.SelectorFirst.TheVariants as begin
 use Rattle.g_listing_grammar.specs.Words.{comma_or_eol, number}
 use Rattle.g_listing_grammar.specs.Nodes.{selector_words, whole_selector, selector_first, dots, range_rest, selector_rest, more_or_last, selector_item, further_selectors, selectors}
 use Rattle.g_listing_words.specs.Operations.{lookup}
-use Rattle.g_print_laws.proofs.Lexing.{Inside, Full, word_piece}
+use Rattle.g_print_laws.proofs.Lexing.{Inside, Full, IsWord, word_piece}
 use Rattle.g_print_laws.proofs.NumberPieces.{number_piece}
 use Rattle.g_print_laws.proofs.TextPieces.{text_piece}
 use Rattle.g_print_laws.proofs.Tables.{holds}

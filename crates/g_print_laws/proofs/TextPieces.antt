@@ -14,7 +14,7 @@ use Rattle.g_tokens.specs.Scan.{End, text_end}
 use Rattle.g_tokens.proofs.TextEnds.{quoted_front}
 use Rattle.g_values.specs.Text.{hex_digit, byte_text, bytes_text}
 use Rattle.g_diagram.specs.Text.{quoted}
-use Rattle.g_listing_grammar.specs.Bytes.{IsBytes}
+use Rattle.g_print_laws.specs.Bytes.{IsBytes}
 use Rattle.g_print_laws.proofs.Lexing.{Inside, is_inner, both, piece}
 
 abbrev pub is_byte : ℕ → Bool

@@ -5,7 +5,7 @@ ghost use Rattle.std.specs.Prelude.{◌≡◌, ℕ, List};
 ghost use Rattle.g_diagram.specs.declared.hierarchy.Hierarchy.{Hierarchy};
 ghost use Rattle.g_diagram.specs.Text.{text_of};
 ghost use Rattle.g_listing_grammar.specs.Listing.{IsListing};
-ghost use Rattle.g_listing_grammar.specs.Bytes.{IsBytes};
+ghost use Rattle.g_print_laws.specs.Bytes.{IsBytes};
 
 /// Where some bytes have a hierarchy, its canonical text has it too and has no other, and two such
 /// hierarchies don't share a canonical text.
