@@ -8,8 +8,6 @@ mod operand;
 mod port;
 pub mod ports;
 mod push;
-#[cfg(test)]
-mod tests;
 
 pub use callee::{Callees, callees};
 pub use operand::{Operand, Side};

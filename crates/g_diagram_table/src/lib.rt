@@ -5,7 +5,5 @@
 mod count;
 mod entry;
 pub mod table;
-#[cfg(test)]
-mod tests;
 
 pub use entry::{Arm, Entry, Kind, Part};

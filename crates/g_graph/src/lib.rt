@@ -7,5 +7,3 @@ pub mod edges;
 mod find;
 mod hint;
 pub mod reach;
-#[cfg(test)]
-mod tests;

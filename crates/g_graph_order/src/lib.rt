@@ -4,6 +4,3 @@
 mod removal;
 
 pub use removal::order;
-
-#[cfg(test)]
-mod tests;

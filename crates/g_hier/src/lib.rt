@@ -9,8 +9,6 @@ mod linking;
 mod outlines;
 mod recursions;
 mod spaces;
-#[cfg(test)]
-mod tests;
 
 pub use linked::{CallLine, Caller, Linked, Outline, Placed, Space};
 pub use linking::{LinkRefused, can_link, link};

@@ -1,12 +1,12 @@
-//! Small graphs: what a node leads to, which nodes lead to themselves, and that the guess of these holds.
+//! Small graphs: what a node leads to, which nodes lead to themselves, and an order of all nodes.
 
 ghost use Rattle.std.specs.Prelude.{IfOk};
 ghost use Rattle.g_graph.specs.Graph.{InRange};
 
-use crate::cycles::{cycles, edge_at, shows};
-use crate::edges::{add_edge, bare};
-use crate::find::guess;
-use crate::reach::reach;
+use g_graph::cycles::cycles;
+use g_graph::edges::{add_edge, bare};
+use g_graph::reach::reach;
+use g_graph_order::order;
 use std::alloc::{AllocError, Global};
 use std::test::Fail;
 
@@ -54,57 +54,44 @@ fn marked(alloc: Global, marks: &[bool]) -> Result<Vec<usize>, AllocError> {
     Ok(nodes)
 }
 
-/// Whether what is guessed of a graph shows which nodes lead to themselves, so that no search is made
-/// for each.
-fn is_guessed(alloc: Global, graph: &[Vec<usize>]) -> Result<bool, AllocError> {
-    let hints = guess(alloc, graph)?;
-    if hints.len() != graph.len() {
-        return Ok(false);
+/// An order of the nodes, or none of them where there is none.
+fn ordered(alloc: Global, graph: &[Vec<usize>]) -> Result<Vec<usize>, AllocError>
+    requires { InRange graph.now }
+{
+    match order(alloc, graph)? {
+        None => Ok(Vec::new(alloc)),
+        Some(nodes) => Ok(nodes),
     }
-    Ok(shows(graph, hints.as_slice()))
 }
 
 /// From which node to which.
 type Edges = &'static [(usize, usize)];
 
-/// A number of nodes, edges, a node, the nodes to which it leads, and the nodes that lead to themselves: no
-/// node; a chain with an edge twice; a ring with a way in and a way out; a node to itself and a node between
-/// two rings; two rings with a node in common; and a node that isn't there.
-const CASES: [(usize, Edges, usize, &[usize], &[usize]); 6] = [
-    (0, &[], 0, &[], &[]),
-    (3, &[(0, 1), (0, 1), (1, 2)], 0, &[1, 2], &[]),
-    (4, &[(0, 1), (1, 2), (2, 1), (2, 3)], 2, &[1, 2, 3], &[1, 2]),
+/// A number of nodes, edges, a node, the nodes to which it leads, the nodes that lead to themselves, and an
+/// order: a chain with an edge twice; a node to itself and a node between two rings.
+const CASES: [(usize, Edges, usize, &[usize], &[usize], &[usize]); 2] = [
+    (3, &[(0, 2), (0, 2), (2, 1)], 0, &[1, 2], &[], &[0, 2, 1]),
     (
         4,
         &[(0, 0), (0, 1), (1, 2), (2, 3), (3, 2)],
         1,
         &[2, 3],
         &[0, 2, 3],
+        &[],
     ),
-    (
-        4,
-        &[(0, 1), (1, 0), (0, 2), (2, 3), (3, 0)],
-        3,
-        &[0, 1, 2, 3],
-        &[0, 1, 2, 3],
-    ),
-    (1, &[(0, 0)], 1, &[], &[0]),
 ];
 
 #[test]
 fn small_graphs(rt: HostRuntime) -> Result<(), Fail> {
     let alloc = rt.alloc();
-    for (nodes, edges, from, reached, turning) in &CASES {
+    for (nodes, edges, from, reached, turning, in_order) in &CASES {
         let graph = graph_of(alloc, *nodes, *edges)?;
         let marks = reach(alloc, graph.as_slice(), *from)?;
         assert_eq!(rt; marked(alloc, marks.as_slice())?.as_slice(), *reached);
         let marks = cycles(alloc, graph.as_slice())?;
         assert_eq!(rt; marked(alloc, marks.as_slice())?.as_slice(), *turning);
-        assert!(rt; is_guessed(alloc, graph.as_slice())?);
+        assert_eq!(rt; ordered(alloc, graph.as_slice())?.as_slice(), *in_order);
     }
-    let graph = graph_of(alloc, 2, &[(0, 1), (0, 0)])?;
-    assert_eq!(rt; edge_at(graph.as_slice(), 0, 1), Some(0));
-    assert_eq!(rt; edge_at(graph.as_slice(), 0, 2), None);
     Ok(())
 }
 
