@@ -3,4 +3,3 @@ pub mod Conversions
 pub mod LaneLemmas
 pub mod Loops
 pub mod RowLengths
-pub mod TestLemmas

@@ -10,7 +10,7 @@ ghost use Rattle.g_values.specs.declared.value.Value.TheVariants as value;
 use crate::numbers::{left, right, zipped};
 use g_prims_edits::{Operator, absolute_number, absolute_word, combined_number, nothing};
 use g_types::{Rep, wider};
-use g_values::{Num, NumArr, Value};
+use g_values::{Copies, Num, NumArr, Value};
 use std::alloc::{AllocError, Global};
 
 fn number_and(
@@ -30,7 +30,7 @@ fn number_and(
         ))),
         Value::Nums(ys) => {
             let rep = wider(kept.rep, ys.rep);
-            Ok(Value::Nums(right(operator, rep, kept, ys.copy(alloc)?)))
+            Ok(Value::Nums(right(operator, rep, kept, ys.copy(alloc, &mut Copies { n: 0 })?)))
         }
         _ => Ok(Value::Bool(false)),
     }
@@ -79,7 +79,7 @@ fn and_number(
         ))),
         Value::Nums(xs) => {
             let rep = wider(xs.rep, kept.rep);
-            Ok(Value::Nums(left(operator, rep, xs.copy(alloc)?, kept)))
+            Ok(Value::Nums(left(operator, rep, xs.copy(alloc, &mut Copies { n: 0 })?, kept)))
         }
         _ => Ok(Value::Bool(false)),
     }
@@ -95,7 +95,11 @@ fn and_numbers(
 {
     match other {
         Value::Num(x) => Ok(Value::Nums(right(operator, wider(x.rep, kept.rep), *x, kept))),
-        Value::Nums(xs) => Ok(Value::Nums(zipped(operator, xs.copy(alloc)?, &kept))),
+        Value::Nums(xs) => Ok(Value::Nums(zipped(
+            operator,
+            xs.copy(alloc, &mut Copies { n: 0 })?,
+            &kept,
+        ))),
         _ => Ok(Value::Bool(false)),
     }
 }

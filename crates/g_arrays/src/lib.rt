@@ -7,10 +7,6 @@ mod bits;
 mod elements;
 mod lanes;
 mod numbers;
-#[cfg(test)]
-mod row_tests;
-#[cfg(test)]
-mod tests;
 mod words;
 
 pub use act::act_on;

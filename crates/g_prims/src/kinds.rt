@@ -15,10 +15,7 @@ use std::alloc::{AllocError, Global};
 pub fn is_num(ty: &Ty) -> bool
     ensures { result ≡ types.is_num ty.now }
 {
-    match ty {
-        Ty::Num(_) => true,
-        _ => false,
-    }
+    matches!(ty, Ty::Num(_))
 }
 
 /// Whether it is an array of numbers.
@@ -35,10 +32,7 @@ pub fn is_nums(ty: &Ty) -> bool
 pub fn is_bool(ty: &Ty) -> bool
     ensures { result ≡ spec.is_bool ty.now }
 {
-    match ty {
-        Ty::Bool => true,
-        _ => false,
-    }
+    matches!(ty, Ty::Bool)
 }
 
 /// Whether it is an array of Booleans.
@@ -55,10 +49,7 @@ pub fn is_bools(ty: &Ty) -> bool
 pub fn is_str(ty: &Ty) -> bool
     ensures { result ≡ spec.is_str ty.now }
 {
-    match ty {
-        Ty::Str => true,
-        _ => false,
-    }
+    matches!(ty, Ty::Str)
 }
 
 /// Whether it is an array of strings.
@@ -75,10 +66,7 @@ pub fn is_strs(ty: &Ty) -> bool
 pub fn is_array(ty: &Ty) -> bool
     ensures { result ≡ values.is_array ty.now }
 {
-    match ty {
-        Ty::Arr(_) => true,
-        _ => false,
-    }
+    matches!(ty, Ty::Arr(_))
 }
 
 /// Whether it is a number or an array of numbers.

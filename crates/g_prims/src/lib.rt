@@ -9,8 +9,6 @@ mod outs;
 mod refusal;
 mod rows;
 mod string_rows;
-#[cfg(test)]
-mod tests;
 mod values;
 
 pub use refusal::RowRefused;

@@ -109,10 +109,7 @@ fn is_bytes(a: &Ty) -> bool
     ensures { result ≡ spec.is_bytes a.now }
 {
     match a {
-        Ty::Arr(item) => match item.get() {
-            Ty::Num(Rep::U8) => true,
-            _ => false,
-        },
+        Ty::Arr(item) => matches!(item.get(), Ty::Num(Rep::U8)),
         _ => false,
     }
 }

@@ -1,5 +1,5 @@
 -- Arithmetic of numbers and of arrays of numbers. What has no row gives FALSE, here and below.
-use Rattle.std.specs.Prelude.{ℤ, zero, suc, pos, negsuc, ◌+ℤ◌, ◌-ℤ◌, ◌*ℤ◌, neg_ℤ, false, List, [], ◌∷◌, map, cond, int_lt}
+use Rattle.std.specs.Prelude.{ℤ, zero, suc, pos, negsuc, ◌+ℤ◌, ◌-ℤ◌, ◌*ℤ◌, neg_ℤ, false, List, [], ◌∷◌, map, Option, Some, None, cond, int_lt}
 use Rattle.std.specs.Int.{int_div_euclid}
 use Rattle.std.specs.Simd.Lanes.{zip2}
 use Rattle.g_types.specs.declared.rep.Rep.{Rep}
@@ -23,8 +23,9 @@ numbers r all = value.Nums (numbers_of r all)
 abbrev pub number : Rep → ℤ → Value
 number r n = value.Num (num_of r n)
 
--- Two operands, in the wider representation and wrapped: arrays element by element to the smaller
--- size, a number with each element of an array.
+-- Two operands are coerced to the wider representation of both first, and what they give is wrapped: arrays element by element to the
+-- smaller size, a number with each element of an array. Sums, differences and products are the same modulo 2 ^ width for operands that
+-- are coerced or not, so that only what they give is wrapped below; a law of `g_prims_laws` says that both may be coerced before.
 
 abbrev pub combined : (ℤ → ℤ → ℤ) → Rep → ℤ → ℤ → ℤ
 combined f r x y = wrap r (f x y)
@@ -56,6 +57,15 @@ minus x y = x -ℤ y
 
 abbrev pub times : ℤ → ℤ → ℤ
 times x y = x *ℤ y
+
+-- the representation of a number, or of an array's numbers
+abbrev pub rep_at : Value-F Value → Option Rep
+rep_at (Value-F.Num x) = Some x.rep
+rep_at (Value-F.Nums xs) = Some xs.rep
+rep_at _ = None
+
+abbrev pub rep_of : Value → Option Rep
+rep_of v = rep_at (out-Value v)
 
 -- one operand, wrapped
 

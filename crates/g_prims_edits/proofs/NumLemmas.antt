@@ -14,10 +14,10 @@ use Rattle.g_prims_edits.proofs.WordLemmas.{number-result}
 InRange-prop : (r : Rep) (n : ℤ) → IsProp (InRange r n)
 InRange-prop r n = hlevel T_prop
 
-abbrev num_with : (r : Rep) (n : ℤ) → InRange r n → Num
+abbrev pub num_with : (r : Rep) (n : ℤ) → InRange r n → Num
 num_with r n p = record { rep = r; n = n; in_range = p }
 
-same_with : (r : Rep) (n m : ℤ) (e : n ≡ m) (p : InRange r n) (q : InRange r m) → num_with r n p ≡ num_with r m q
+pub same_with : (r : Rep) (n m : ℤ) (e : n ≡ m) (p : InRange r n) (q : InRange r m) → num_with r n p ≡ num_with r m q
 same_with r n m e p q = subst (λ k. (h : InRange r k) → num_with r n p ≡ num_with r k h) e (λ h. ap (num_with r n) (InRange-prop r n p h)) q
 
 pub same_wrapped : (r : Rep) (a b : ℤ) → wrap r a ≡ wrap r b → num_of r a ≡ num_of r b

@@ -2,6 +2,7 @@
 use Rattle.std.proofs.Common.{◌≡◌, Bool, true, false, cond, ◌&&◌, ℕ, suc, ◌+◌, ◌==◌, List, [], ◌∷◌, length, Option, Some, None, refl, ap, sym, ◌∙◌, arith, eq-eqb}
 use Rattle.std.specs.Prelude.{nat_le}
 use Rattle.std.specs.List.{list_all}
+use Rattle.std.proofs.lemmas.Bool.Decides.{nat_tests}
 use Rattle.g_types.specs.declared.rep.Rep.{Rep}
 use Rattle.g_types.specs.declared.ty.Ty.{Ty}
 use Rattle.g_types.specs.declared.ty.Ty.TheVariants as ty
@@ -29,27 +30,27 @@ Long o n = (us : List Ty) → o ≡ Some us → length us ≡ n
 none_long : (n : ℕ) → Long None n
 none_long n us e = absurd (let no : None ≡ Some us = e in cc)
 
-some_long : (outs : List Ty) → Long (Some outs) (length outs)
-some_long outs us e = ap length (sym (some_is outs us e))
+some_outs_long : (outs : List Ty) → Long (Some outs) (length outs)
+some_outs_long outs us e = ap length (sym (some_is outs us e))
 
 when_long : (b : Bool) (outs : List Ty) → Long (when b outs) (length outs)
-when_long true outs = some_long outs
+when_long true outs = some_outs_long outs
 when_long false outs = none_long (length outs)
 
 single_long : (o : Option Ty) → Long (single o) 1
 single_long None = none_long 1
-single_long (Some t) = some_long (t ∷ [])
+single_long (Some t) = some_outs_long (t ∷ [])
 
 twice_long : (o : Option Ty) → Long (twice o) 2
 twice_long None = none_long 2
-twice_long (Some t) = some_long (t ∷ t ∷ [])
+twice_long (Some t) = some_outs_long (t ∷ t ∷ [])
 
 cond_long : (b : Bool) (o p : Option (List Ty)) (n : ℕ) → Long o n → Long p n → Long (cond b o p) n
 cond_long true o p n h g = h
 cond_long false o p n h g = g
 
 converted_long : (r : Rep) (x : Ty) → Long (converted r x) 1
-converted_long r x = cond_long (is_num x) (Some (ty.Num r ∷ [])) (when (is_nums x) (ty.Arr (ty.Num r) ∷ [])) 1 (some_long (ty.Num r ∷ [])) (when_long (is_nums x) (ty.Arr (ty.Num r) ∷ []))
+converted_long r x = cond_long (is_num x) (Some (ty.Num r ∷ [])) (when (is_nums x) (ty.Arr (ty.Num r) ∷ [])) 1 (some_outs_long (ty.Num r ∷ [])) (when_long (is_nums x) (ty.Arr (ty.Num r) ∷ []))
 
 selected_long : (t f : Ty) → Long (selected t f) 1
 selected_long t f = cond_long (is_num t && is_num f) (single (wide t f)) (when (same_type t f) (t ∷ [])) 1 (single_long (wide t f)) (when_long (same_type t f) (t ∷ []))
@@ -94,7 +95,10 @@ bundled : (ts us : List Ty) → row_of op.Bundle ts ≡ Some us → fits (primit
 bundled [] us e = absurd cc
 bundled (t ∷ ts) us e =
     let s = some_few (nat_le (length (t ∷ ts)) 64) (list_all is_shallow (t ∷ ts)) (ty.Cluster (t ∷ ts) ∷ []) us e in
-    ap (λ b. b && (length us == 1)) s.0 ∙ eq-eqb (length us) 1 (ap length (sym s.1))
+    ap (λ b. (nat_le 1 (length (t ∷ ts)) && b) && (length us == 1)) s.0 ∙ ap (λ b. (b && true) && (length us == 1)) (some_long (length ts)) ∙ eq-eqb (length us) 1 (ap length (sym s.1))
+  where
+    some_long : (n : ℕ) → nat_le 1 (suc n) ≡ true
+    some_long n = grind (arith, nat_tests)
 
 unbundled : (ts us : List Ty) → row_of op.Unbundle ts ≡ Some us → fits (primitive_row op.Unbundle) (length ts) (length us) ≡ true
 unbundled [] us e = absurd cc

@@ -6,3 +6,5 @@ mod ClusterRows
 pub mod RowOutputs
 pub mod Counts
 pub mod SortOrder
+mod Coercing
+mod SameValues

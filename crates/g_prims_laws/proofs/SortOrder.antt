@@ -20,15 +20,14 @@ use Rattle.g_prims_definitions.specs.Arrays.{insert, sorted, sorted_at}
 use Rattle.g_prims_definitions.specs.Comparisons.{less, less_at}
 use Rattle.g_prims_laws.specs.Laws.{IsAscending, SortsNumbers, SortsTexts}
 
+passed : {A : Type 0} (b : Bool) (x y : A) (ys zs : List A) → IsPermutation (x ∷ ys) zs → IsPermutation (x ∷ y ∷ ys) (cond b (y ∷ zs) (x ∷ y ∷ ys))
+passed false x y ys zs p = IsPermutation-refl (x ∷ y ∷ ys)
+passed true x y ys zs p =
+    IsPermutation-trans (x ∷ y ∷ ys) (y ∷ x ∷ ys) (y ∷ zs) (IsPermutation-swap (x ∷ y ∷ ys) (y ∷ x ∷ ys) 0 1 (omega arith) (omega arith) refl) (IsPermutation-cons y (x ∷ ys) zs p)
+
 inserted : {A : Type 0} (lt : A → A → Bool) (x : A) (ys : List A) → IsPermutation (x ∷ ys) (insert lt x ys)
 inserted lt x [] = IsPermutation-refl (x ∷ [])
-inserted lt x (y ∷ ys) = by (lt y x)
-  where
-    by : (b : Bool) → IsPermutation (x ∷ y ∷ ys) (cond b (y ∷ insert lt x ys) (x ∷ y ∷ ys))
-    by false = IsPermutation-refl (x ∷ y ∷ ys)
-    by true =
-        IsPermutation-trans (x ∷ y ∷ ys) (y ∷ x ∷ ys) (y ∷ insert lt x ys) (IsPermutation-swap (x ∷ y ∷ ys) (y ∷ x ∷ ys) 0 1 (omega arith) (omega arith) refl)
-        (IsPermutation-cons y (x ∷ ys) (insert lt x ys) (inserted lt x ys))
+inserted lt x (y ∷ ys) = passed (lt y x) x y ys (insert lt x ys) (inserted lt x ys)
 
 permuted : {A : Type 0} (lt : A → A → Bool) (xs : List A) → IsPermutation xs (sorted lt xs)
 permuted lt [] = IsPermutation-refl []
@@ -36,41 +35,46 @@ permuted lt (x ∷ xs) = IsPermutation-trans (x ∷ xs) (x ∷ sorted lt xs) (in
 
 -- no element is less than the one before it, one after another
 
-data Ascends {A : Type 0} (lt : A → A → Bool) : List A → Type 0 where
-  none : Ascends lt []
-  only : (x : A) → Ascends lt (x ∷ [])
-  more : (x y : A) (ys : List A) → lt y x ≡ false → Ascends lt (y ∷ ys) → Ascends lt (x ∷ y ∷ ys)
+abbrev Ascends : {A : Type 0} → (A → A → Bool) → List A → Type 0
+Ascends lt [] = Unit {0}
+Ascends lt (x ∷ []) = Unit {0}
+Ascends lt (x ∷ y ∷ ys) = (lt y x ≡ false) × Ascends lt (y ∷ ys)
 
-put_in : {A : Type 0} (lt : A → A → Bool) → ((a b : A) → lt a b ≡ true → lt b a ≡ false) → (x : A) (ys : List A) → Ascends lt ys → Ascends lt (insert lt x ys)
-put_in lt o x [] u = only x
-put_in lt o x (y ∷ []) u = by (lt y x) refl
-  where
-    by : (b : Bool) → lt y x ≡ b → Ascends lt (cond b (y ∷ x ∷ []) (x ∷ y ∷ []))
-    by true e = more y x [] (o y x e) (only x)
-    by false e = more x y [] e u
-put_in lt o x (y ∷ z ∷ zs) (more y z zs e u) = by (lt y x) refl
-  where
-    under : (b : Bool) → lt y x ≡ true → Ascends lt (cond b (z ∷ insert lt x zs) (x ∷ z ∷ zs)) → Ascends lt (y ∷ cond b (z ∷ insert lt x zs) (x ∷ z ∷ zs))
-    under true h v = more y z (insert lt x zs) e v
-    under false h v = more y x (z ∷ zs) (o y x h) v
+abbrev Apart : {A : Type 0} → (A → A → Bool) → Type 0
+Apart {A} lt = (a b : A) → lt a b ≡ true → lt b a ≡ false
 
-    by : (b : Bool) → lt y x ≡ b → Ascends lt (cond b (y ∷ insert lt x (z ∷ zs)) (x ∷ y ∷ z ∷ zs))
-    by true h = under (lt z x) h (put_in lt o x (z ∷ zs) u)
-    by false h = more x y (z ∷ zs) h (more y z zs e u)
+first_in : {A : Type 0} (lt : A → A → Bool) → Apart lt → (x y : A) (b : Bool) → lt y x ≡ b → Ascends lt (cond b (y ∷ x ∷ []) (x ∷ y ∷ []))
+first_in lt o x y true e = (o y x e, tt)
+first_in lt o x y false e = (e, tt)
 
-in_order : {A : Type 0} (lt : A → A → Bool) → ((a b : A) → lt a b ≡ true → lt b a ≡ false) → (xs : List A) → Ascends lt (sorted lt xs)
-in_order lt o [] = none
+under : {A : Type 0} (lt : A → A → Bool) → Apart lt → (x y z : A) (zs ins : List A) (b : Bool) → lt y x ≡ true → lt z y ≡ false → Ascends lt (cond b (z ∷ ins) (x ∷ z ∷ zs)) → Ascends lt (y ∷ cond b (z ∷ ins) (x ∷ z ∷ zs))
+under lt o x y z zs ins true h e v = (e, v)
+under lt o x y z zs ins false h e v = (o y x h, v)
+
+placed_in : {A : Type 0} (lt : A → A → Bool) (x y : A) (zs ins : List A) (b : Bool) → lt y x ≡ b → Ascends lt (y ∷ zs) → (lt y x ≡ true → Ascends lt (y ∷ ins)) → Ascends lt (cond b (y ∷ ins) (x ∷ y ∷ zs))
+placed_in lt x y zs ins true h u v = v h
+placed_in lt x y zs ins false h u v = (h, u)
+
+put_in : {A : Type 0} (lt : A → A → Bool) → Apart lt → (x : A) (ys : List A) → Ascends lt ys → Ascends lt (insert lt x ys)
+put_in lt o x [] u = tt
+put_in lt o x (y ∷ []) u = first_in lt o x y (lt y x) refl
+put_in lt o x (y ∷ z ∷ zs) u =
+    let v = put_in lt o x (z ∷ zs) u.1 in
+    placed_in lt x y (z ∷ zs) (insert lt x (z ∷ zs)) (lt y x) refl u (λ h. under lt o x y z zs (insert lt x zs) (lt z x) h u.0 v)
+
+in_order : {A : Type 0} (lt : A → A → Bool) → Apart lt → (xs : List A) → Ascends lt (sorted lt xs)
+in_order lt o [] = tt
 in_order lt o (x ∷ xs) = put_in lt o x (sorted lt xs) (in_order lt o xs)
 
 one_by_one : {A : Type 0} (lt : A → A → Bool) (xs : List A) → Ascends lt xs → (k : ℕ) (d : A) → k + 1 < length xs → lt (slice_index_or xs (k + 1) d) (slice_index_or xs k d) ≡ false
-one_by_one lt [] none k d h = absurd (omega arith)
-one_by_one lt (x ∷ []) (only x) k d h = absurd (omega arith)
-one_by_one lt (x ∷ y ∷ ys) (more x y ys e u) zero d h = e
-one_by_one lt (x ∷ y ∷ ys) (more x y ys e u) (suc k) d h =
+one_by_one lt [] u k d h = absurd (omega arith)
+one_by_one lt (x ∷ []) u k d h = absurd (omega arith)
+one_by_one lt (x ∷ y ∷ ys) u zero d h = u.0
+one_by_one lt (x ∷ y ∷ ys) u (suc k) d h =
     let same : suc k + 1 ≡ suc (k + 1) = omega arith in
-    subst (λ n. lt (slice_index_or (x ∷ y ∷ ys) n d) (slice_index_or (y ∷ ys) k d) ≡ false) (sym same) (one_by_one lt (y ∷ ys) u k d (omega arith))
+    subst (λ n. lt (slice_index_or (x ∷ y ∷ ys) n d) (slice_index_or (y ∷ ys) k d) ≡ false) (sym same) (one_by_one lt (y ∷ ys) u.1 k d (omega arith))
 
-ascending : {A : Type 0} (lt : A → A → Bool) → ((a b : A) → lt a b ≡ true → lt b a ≡ false) → (xs : List A) → IsAscending lt xs (sorted lt xs)
+ascending : {A : Type 0} (lt : A → A → Bool) → Apart lt → (xs : List A) → IsAscending lt xs (sorted lt xs)
 ascending lt o xs = record { permutation = permuted lt xs; in_order = λ k d low h. one_by_one lt (sorted lt xs) (in_order lt o xs) k d h }
 
 numbers_apart : (a b : ℤ) → int_lt a b ≡ true → int_lt b a ≡ false

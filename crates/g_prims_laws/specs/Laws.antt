@@ -13,7 +13,7 @@ use Rattle.g_values.specs.declared.value.Value.{Value}
 use Rattle.g_values.specs.declared.value.Value.TheVariants as value
 use Rattle.g_values.specs.declared.primitive.Primitive.{Primitive}
 use Rattle.g_operations.specs.Rows.{fits, primitive_row}
-use Rattle.g_prims_definitions.specs.Arithmetic.{numbers}
+use Rattle.g_prims_definitions.specs.Arithmetic.{arithmetic, converted, numbers, rep_of}
 use Rattle.g_prims_definitions.specs.Arrays.{sort}
 use Rattle.g_prims_definitions.specs.Begins.{BreaksOff}
 use Rattle.g_prims_definitions.specs.Bits.{items}
@@ -50,3 +50,11 @@ SortsNumbers = (xs : Numbers) → (ys : List ℤ) × (sort (value.Nums xs) ≡ n
 
 abbrev pub SortsTexts : Type 0
 SortsTexts = (xs : ArrOf Value) → (ys : List Value) × (sort (value.Arr xs) ≡ items xs ys) × IsAscending less xs.items ys
+
+-- both operands may be coerced to the wider representation first, as the language says
+abbrev pub CoercesFirst : (ℤ → ℤ → ℤ) → Type 0
+CoercesFirst f = (x y : Value) (r s : Rep) → rep_of x ≡ Some r → rep_of y ≡ Some s → arithmetic f x y ≡ arithmetic f (converted (wider r s) x) (converted (wider r s) y)
+
+-- two proper values of one type without references are equal by the operation `eq` exactly where they are the same
+abbrev pub EqualIsSame : Type 0
+EqualIsSame = (v w : Value) → IsProper v → IsProper w → type_of v ≡ type_of w → has_reference (type_of v) ≡ false → (equal v w ≡ true) ↔ (v ≡ w)

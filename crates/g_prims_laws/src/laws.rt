@@ -1,7 +1,10 @@
 //! Laws of the operations and their rows.
 
+ghost use Rattle.g_prims_definitions.specs.Arithmetic.{minus, plus, times};
 ghost use Rattle.g_prims_laws.specs.Laws.{
   BreaksOffThere,
+  CoercesFirst,
+  EqualIsSame,
   FitsItsRow,
   GivesItsRow,
   SortsNumbers,
@@ -29,4 +32,17 @@ pub fn refusal_laws()
 pub fn sort_laws()
     ensures numbers { SortsNumbers }
     ensures texts { SortsTexts }
+{}
+
+/// Arithmetic on numbers, or arrays of numbers, of two representations is that of both operands coerced
+/// to the wider one first.
+pub fn coercion_laws()
+    ensures sums { CoercesFirst plus }
+    ensures differences { CoercesFirst minus }
+    ensures products { CoercesFirst times }
+{}
+
+/// Proper values of one type without references are equal exactly where they are the same.
+pub fn equality_laws()
+    ensures { EqualIsSame }
 {}

@@ -3,4 +3,4 @@
 
 mod laws;
 
-pub use laws::{count_laws, refusal_laws, row_laws, sort_laws};
+pub use laws::{coercion_laws, count_laws, equality_laws, refusal_laws, row_laws, sort_laws};

@@ -5,6 +5,8 @@
 #[cfg(test)]
 mod devices;
 #[cfg(test)]
+mod primitives;
+#[cfg(test)]
 mod text;
 #[cfg(test)]
 mod types;

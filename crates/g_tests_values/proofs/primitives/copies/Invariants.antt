@@ -1,5 +1,5 @@
 use Rattle.std.proofs.Common.{◌≡◌, ◌∷◌, take}
-use Rattle.g_arrays.proofs.tests.copies.Given as goal
+use Rattle.g_tests_values.proofs.primitives.copies.Given as goal
 
 abbrev pub invariant-loop-other : goal.invariant-loop-other
 invariant-loop-other l = l.ins ≡ l.kept ∷ take l.other-index l.others

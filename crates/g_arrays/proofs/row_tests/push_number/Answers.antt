@@ -1,5 +1,0 @@
-use Rattle.g_values.proofs.ProperLemmas.{proper_num}
-use Rattle.g_arrays.proofs.row_tests.push_number.Goals as goal
-
-pub push-requires : goal.push-requires
-push-requires c = proper_num c.wrapped.result

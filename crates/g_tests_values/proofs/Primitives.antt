@@ -1,0 +1,25 @@
+-- What the values of the tests are.
+use Rattle.std.proofs.Common.{◌≡◌, ◌≤◌, ◌<◌, ℕ, zero, suc, true, false, List, [], ◌∷◌, length, Some, arith}
+use Rattle.g_types.specs.declared.ty.Ty.{Ty}
+use Rattle.g_values.specs.Numbers.{Numbers}
+use Rattle.g_values.specs.Proper.{IsProper}
+use Rattle.g_values.specs.declared.value.Value.TheVariants as value
+use Rattle.g_values.specs.declared.primitive.Primitive.{Primitive}
+use Rattle.g_values.proofs.ProperLemmas.{proper_num, proper_bool, proper_nums}
+use Rattle.g_values.proofs.ProperParts.{proper_text}
+use Rattle.g_prims_definitions.specs.Rows.{row_of}
+use Rattle.g_prims_definitions.specs.Takes.{takes}
+use Rattle.g_arrays.specs.Acting.{Acts}
+
+pub proper_few : (xs : Numbers) → length xs.all ≤ 1000 → IsProper (value.Nums xs)
+proper_few xs h = proper_nums xs (omega arith)
+
+pub text_is : (s : List ℕ) → length s ≤ 1000 → IsProper (value.Str s)
+text_is s h = proper_text s (omega arith)
+
+pub acts_first : (p : Primitive) (ts outs : List Ty) → row_of p ts ≡ Some outs → length outs ≡ 1 → takes p ts 0 ≡ true → Acts p 0 ts
+acts_first p ts [] h n t = absurd (omega arith)
+acts_first p ts (u ∷ []) h n t = record { output = u; row = h; taken = t; first = λ k l. absurd (omega arith) }
+acts_first p ts (u ∷ v ∷ us) h n t = absurd (omega arith)
+
+pub ruleset propers = (proper_num, proper_bool, proper_few, text_is)
