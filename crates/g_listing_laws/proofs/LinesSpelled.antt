@@ -1,5 +1,5 @@
 -- The constants of a node, at every depth, by its form.
-use Rattle.std.proofs.Common.{◌≡◌, ℕ, ℤ, ◌+◌, List, [], ◌∷◌, map, length, sym, subst}
+use Rattle.std.proofs.Common.{◌≡◌, ℕ, ℤ, ◌+◌, List, [], ◌∷◌, map, length, sym, subst, ◌≤◌, arith}
 use Rattle.std.specs.Prelude.{Some, None}
 use Rattle.std.specs.List.{All}
 use Rattle.std.proofs.lemmas.List.Elements.{All-nil, All-cons, All-head, All-tail, All-append}
@@ -17,11 +17,12 @@ use Rattle.g_diagram.specs.declared.node.SequenceFrame.{SequenceFrame}
 use Rattle.g_diagram.specs.declared.node.Node.{Node}
 use Rattle.g_diagram.specs.declared.node.Node.TheVariants as node
 use Rattle.g_diagram.specs.declared.hierarchy.Vi.{Vi}
-use Rattle.g_diagram.specs.Lines.{Wire, Lines, Entry, Kind, Shows, entry, one_line, loop_lines, in_order, entries_in, give_lines, branch_count, branches_entries, arms, frame_count, frames_entries, parts, lines_of, nodes_entries, panel_entries, entries_of}
+use Rattle.g_diagram.specs.Lines.{Wire, Lines, Entry, Kind, Shows, entry, one_line, loop_lines, in_order, entries_in, give_lines, branch_count, branches_entries, arms, frame_count, frames_entries, parts, lines_of, nodes_entries, panel_entries, entries_of, BranchLines}
 use Rattle.g_diagram.specs.Lines as kind
 use Rattle.g_diagram.proofs.LineLemmas.{diagram_lines, branch_lines, frame_lines, case_lines, sequence_lines}
 use Rattle.g_diagram.proofs.LineLemmas as by
-use Rattle.g_listing_laws.specs.Spelled.{IsQueueSize, IsLineSpelled, IsKindSpelled}
+use Rattle.g_listing_grammar.specs.Nodes.{results}
+use Rattle.g_listing_laws.specs.Spelled.{IsQueueSize, IsLineSpelled, IsArmSpelled, IsKindSpelled}
 
 abbrev IsEntrySpelled : Entry → Type 0
 IsEntrySpelled e = IsKindSpelled e.kind
@@ -36,8 +37,11 @@ pub record IsNodeSpelled (n : Node) : Type 0 where
 abbrev pub IsBodySpelled : Diagram → Type 0
 IsBodySpelled body = All IsNodeSpelled body.nodes
 
-abbrev pub IsBranchSpelled : Branch → Type 0
-IsBranchSpelled b = IsBodySpelled b.body
+-- a branch of a case with so many results
+pub record IsBranchSpelled (results : ℕ) (b : Branch) : Type 0 where
+  pub selectors : 1 ≤ length b.selectors
+  pub gives : length b.gives ≡ results
+  pub body : IsBodySpelled b.body
 
 abbrev pub IsFrameSpelled : SequenceFrame → Type 0
 IsFrameSpelled f = IsBodySpelled f.body
@@ -54,19 +58,39 @@ in_order_spelled (n ∷ ns) a line d =
 body_spelled : (body : Diagram) → IsBodySpelled body → Spelled (diagram_lines body)
 body_spelled body a = subst Spelled (sym (by.lines-diagram body)) (in_order_spelled body.nodes a)
 
-branch_spelled : (b : Branch) → IsBranchSpelled b → Spelled (branch_lines b).body
-branch_spelled b a = subst (λ l. Spelled l.body) (sym (by.lines-branch b)) (body_spelled b.body a)
+branch_spelled : (n : ℕ) (b : Branch) → IsBranchSpelled n b → Spelled (branch_lines b).body
+branch_spelled n b a = subst (λ l. Spelled l.body) (sym (by.lines-branch b)) (body_spelled b.body a.body)
 
 frame_spelled : (f : SequenceFrame) → IsFrameSpelled f → Spelled (frame_lines f).body
 frame_spelled f a = subst (λ l. Spelled l.body) (sym (by.lines-frame f)) (body_spelled f.body a)
 
-branches_spelled : (line : ℕ) (bs : List Branch) → All IsBranchSpelled bs → All IsEntrySpelled (branches_entries line (map branch_lines bs))
-branches_spelled line [] a = All-nil IsEntrySpelled
-branches_spelled line (b ∷ bs) a =
+branches_spelled : (n line : ℕ) (bs : List Branch) → All (IsBranchSpelled n) bs → All IsEntrySpelled (branches_entries line (map branch_lines bs))
+branches_spelled n line [] a = All-nil IsEntrySpelled
+branches_spelled n line (b ∷ bs) a =
     let l = branch_lines b in
     All-append IsEntrySpelled (l.body.entries (line + 1 + give_lines l.gives) line) (branches_entries (line + branch_count l) (map branch_lines bs))
-    (branch_spelled b (All-head IsBranchSpelled b bs a) (line + 1 + give_lines l.gives) line)
-    (branches_spelled (line + branch_count l) bs (All-tail IsBranchSpelled b bs a))
+    (branch_spelled n b (All-head (IsBranchSpelled n) b bs a) (line + 1 + give_lines l.gives) line)
+    (branches_spelled n (line + branch_count l) bs (All-tail (IsBranchSpelled n) b bs a))
+
+abbrev IsBranchLines : ℕ → BranchLines → Type 0
+IsBranchLines n l = (1 ≤ length l.selectors) × (length l.gives ≡ n)
+
+arms_spelled : (n line : ℕ) (bs : List Branch) → All (IsBranchSpelled n) bs → All (IsArmSpelled n) (arms line (map branch_lines bs))
+arms_spelled n line [] a = All-nil (IsArmSpelled n)
+arms_spelled n line (b ∷ bs) a =
+    let l = branch_lines b in
+    let is = All-head (IsBranchSpelled n) b bs a in
+    let own : IsBranchLines n l = subst (IsBranchLines n) (sym (by.lines-branch b)) (is.selectors, is.gives) in
+    All-cons (IsArmSpelled n) (record { selectors = l.selectors; gives = l.gives; body = line }) (arms (line + branch_count l) (map branch_lines bs)) own
+    (arms_spelled n (line + branch_count l) bs (All-tail (IsBranchSpelled n) b bs a))
+
+some_arms : (line : ℕ) (bs : List Branch) → 1 ≤ length bs → 1 ≤ length (arms line (map branch_lines bs))
+some_arms line [] some = absurd (omega arith)
+some_arms line (b ∷ bs) some = omega arith
+
+some_parts : (line : ℕ) (fs : List SequenceFrame) → 1 ≤ length fs → 1 ≤ length (parts line (map frame_lines fs))
+some_parts line [] some = absurd (omega arith)
+some_parts line (f ∷ fs) some = omega arith
 
 frames_spelled : (line : ℕ) (fs : List SequenceFrame) → All IsFrameSpelled fs → All IsEntrySpelled (frames_entries line (map frame_lines fs))
 frames_spelled line [] a = All-nil IsEntrySpelled
@@ -131,17 +155,20 @@ spelled-InPlace ts body all a =
     by_lines (node.InPlace ts body) (loop_lines ts (diagram_lines body) (kind.InPlace ts)) (by.lines-InPlace ts body)
     (loop_spelled ts (diagram_lines body) (kind.InPlace ts) (λ b f. all) (body_spelled body a))
 
-pub spelled-Case : (selector : Wire) (ts : List Tunnel) (bs : List Branch) → All IsBranchSpelled bs → IsNodeSpelled (node.Case selector ts bs)
-spelled-Case selector ts bs a =
+pub spelled-Case : (selector : Wire) (ts : List Tunnel) (bs : List Branch) → 1 ≤ length bs → All (IsBranchSpelled (results ts)) bs → IsNodeSpelled (node.Case selector ts bs)
+spelled-Case selector ts bs some a =
     let ls = map branch_lines bs in
     by_lines (node.Case selector ts bs) (case_lines selector ts ls) (by.lines-Case selector ts bs)
-    (λ line d. let start : ℕ = line + 1 + length ts in All-cons IsEntrySpelled (entry line d (kind.Case selector ts (arms start ls))) (branches_entries start ls) tt (branches_spelled start bs a))
+    (λ line d.
+        let start : ℕ = line + 1 + length ts in
+        All-cons IsEntrySpelled (entry line d (kind.Case selector ts (arms start ls))) (branches_entries start ls)
+        (some_arms start bs some, arms_spelled (results ts) start bs a) (branches_spelled (results ts) start bs a))
 
-pub spelled-Sequence : (fs : List SequenceFrame) → All IsFrameSpelled fs → IsNodeSpelled (node.Sequence fs)
-spelled-Sequence fs a =
+pub spelled-Sequence : (fs : List SequenceFrame) → 1 ≤ length fs → All IsFrameSpelled fs → IsNodeSpelled (node.Sequence fs)
+spelled-Sequence fs some a =
     let ls = map frame_lines fs in
     by_lines (node.Sequence fs) (sequence_lines ls) (by.lines-Sequence fs)
-    (λ line d. All-cons IsEntrySpelled (entry line d (kind.Sequence (parts (line + 1) ls))) (frames_entries (line + 1) ls) tt (frames_spelled (line + 1) fs a))
+    (λ line d. All-cons IsEntrySpelled (entry line d (kind.Sequence (parts (line + 1) ls))) (frames_entries (line + 1) ls) (some_parts (line + 1) fs some) (frames_spelled (line + 1) fs a))
 
 -- ---- a VI
 

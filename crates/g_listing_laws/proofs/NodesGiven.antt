@@ -1,10 +1,13 @@
 -- The constants of the nodes that a listing has.
-use Rattle.std.proofs.Common.{ℕ, zero, suc, Bool, true, false, List, [], ◌∷◌, Option, inl, inr, ◌⊎◌, codes}
+use Rattle.std.proofs.Common.{ℕ, zero, suc, Bool, true, false, List, [], ◌∷◌, Option, inl, inr, ◌⊎◌, codes, ◌≡◌, ◌≤◌, length, refl, ap, arith}
 use Rattle.std.specs.List.{All}
+use Rattle.std.proofs.lemmas.List.{length-append}
 use Rattle.std.proofs.lemmas.List.Elements.{All-nil, All-cons, All-append}
-use Rattle.g_grammar.specs.Grammar.{Grammar, or_else}
+use Rattle.g_grammar.specs.Grammar.{Grammar, take, exactly, or_else}
 use Rattle.g_values.specs.declared.primitive.Primitive.TheVariants as primitive
+use Rattle.g_diagram.specs.declared.node.Selector.{Selector}
 use Rattle.g_diagram.specs.declared.node.Tunnel.{Tunnel}
+use Rattle.g_diagram.specs.Lines.{Wire}
 use Rattle.g_diagram.specs.declared.node.SequenceFrame.{SequenceFrame}
 use Rattle.g_diagram.specs.declared.node.Node.{Node}
 use Rattle.g_diagram.specs.declared.node.Node.TheVariants as node
@@ -22,8 +25,8 @@ use Rattle.g_listing_grammar.specs.declared.Until.TheVariants as until
 use Rattle.g_listing_grammar.specs.declared.Border.{Border}
 use Rattle.g_listing_grammar.specs.declared.Border.TheVariants as border
 use Rattle.g_listing_grammar.specs.declared.SelectorFirst.{SelectorFirst}
-use Rattle.g_listing_grammar.specs.Words.{word_in, eol}
-use Rattle.g_listing_grammar.specs.Nodes.{selector_first, results, and_last, ends_of, Inside, more_or_end, branch_rest, frame_rest, further_frames, node_first, node_or_end, lines_and_body, operation_rest, plain_rest, structure_rest, nodes_of, node_rest, nodes}
+use Rattle.g_listing_grammar.specs.Words.{word_in, wire, eol}
+use Rattle.g_listing_grammar.specs.Nodes.{selector_first, further_selectors, selectors, results, gives, and_last, ends_of, Inside, more_or_end, branch_rest, frame_rest, further_frames, node_first, node_or_end, lines_and_body, operation_rest, plain_rest, structure_rest, nodes_of, node_rest, nodes}
 use Rattle.g_listing_laws.proofs.Gives.{Gives, Either, Ended, gives_give, gives_take, gives_bind, gives_after, gives_loop}
 use Rattle.g_listing_laws.specs.Spelled.{IsQueueSize, IsLineSpelled}
 use Rattle.g_listing_laws.proofs.TypesGiven.{type_given}
@@ -43,12 +46,36 @@ more_or_end_given : {A : Type 0} (P : A → Type 0) (a : A) → P a → (more : 
 more_or_end_given P a is true = gives_give (inl a) is
 more_or_end_given P a is false = gives_after λ e. gives_give (inr a) is
 
-branch_given : (inside : Inside) → AreGiven inside → (n : ℕ) (c : SelectorFirst) → Gives (Either IsBranchSpelled IsBranchSpelled) (branch_rest inside n c)
+abbrev IsSome : {A : Type 0} → List A → Type 0
+IsSome xs = 1 ≤ length xs
+
+with_last : {A : Type 0} (x : List A × A) → IsSome (and_last x)
+with_last x = omega (arith, length-append x.0 (x.1 ∷ []))
+
+further_given : (s : Selector ⊎ Selector) → Gives (IsSome {A = Selector}) (further_selectors s)
+further_given (inl s) = gives_after λ ss. gives_give (s ∷ and_last ss) (omega arith)
+further_given (inr s) = gives_give (s ∷ []) (omega arith)
+
+selectors_given : (c : SelectorFirst) → Gives (IsSome {A = Selector}) (selectors c)
+selectors_given c = gives_after further_given
+
+abbrev HasLength : ℕ → List Wire → Type 0
+HasLength n ws = length ws ≡ n
+
+exactly_given : (n : ℕ) → Gives (HasLength n) (exactly n (take wire))
+exactly_given zero = gives_give [] refl
+exactly_given (suc n) = gives_after λ x. gives_bind (exactly_given n) λ xs e. gives_give (x ∷ xs) (ap suc e)
+
+gives_given : (n : ℕ) → Gives (HasLength n) (gives n)
+gives_given zero = gives_give [] refl
+gives_given (suc n) = gives_after λ x. gives_bind (exactly_given (suc n)) λ ws e. gives_after λ end. gives_give ws e
+
+branch_given : (inside : Inside) → AreGiven inside → (n : ℕ) (c : SelectorFirst) → Gives (Either (IsBranchSpelled n) (IsBranchSpelled n)) (branch_rest inside n c)
 branch_given inside given n c =
-    gives_after λ ss.
-    gives_after λ ws.
+    gives_bind (selectors_given c) λ ss some.
+    gives_bind (gives_given n) λ ws long.
     gives_bind (given until.WhenOrEnd) λ ns e.
-    more_or_end_given IsBranchSpelled (record { selectors = ss; gives = ws; body = record { nodes = ns.0 } }) e.all ns.1
+    more_or_end_given (IsBranchSpelled n) (record { selectors = ss; gives = ws; body = record { nodes = ns.0 } }) (record { selectors = some; gives = long; body = e.all }) ns.1
 
 frame_given : (inside : Inside) → AreGiven inside → (b : Border) → Gives (Either IsFrameSpelled IsFrameSpelled) (frame_rest inside b)
 frame_given inside given b =
@@ -57,11 +84,14 @@ frame_given inside given b =
     gives_bind (given until.FrameOrEnd) λ ns e.
     more_or_end_given IsFrameSpelled (record { lines = lines.0; body = record { nodes = ns.0 } }) e.all ns.1
 
-frames_given : (inside : Inside) → AreGiven inside → (f : SequenceFrame ⊎ SequenceFrame) → Either IsFrameSpelled IsFrameSpelled f → Gives (All IsFrameSpelled) (further_frames inside f)
+abbrev AreFrames : List SequenceFrame → Type 0
+AreFrames fs = IsSome fs × All IsFrameSpelled fs
+
+frames_given : (inside : Inside) → AreGiven inside → (f : SequenceFrame ⊎ SequenceFrame) → Either IsFrameSpelled IsFrameSpelled f → Gives AreFrames (further_frames inside f)
 frames_given inside given (inl f) is =
     gives_bind (gives_loop IsFrameSpelled IsFrameSpelled eol (λ e. frame_rest inside border.Frame) (λ e. frame_given inside given border.Frame)) λ fs e.
-    gives_give (f ∷ and_last fs) (All-cons IsFrameSpelled f (and_last fs) is (and_last_all IsFrameSpelled fs e))
-frames_given inside given (inr f) is = gives_give (f ∷ []) (All-cons IsFrameSpelled f [] is (All-nil IsFrameSpelled))
+    gives_give (f ∷ and_last fs) (omega arith, All-cons IsFrameSpelled f (and_last fs) is (and_last_all IsFrameSpelled fs e))
+frames_given inside given (inr f) is = gives_give (f ∷ []) (omega arith, All-cons IsFrameSpelled f [] is (All-nil IsFrameSpelled))
 
 -- ---- nodes without diagrams
 
@@ -106,14 +136,15 @@ structure_given v inside given structure.While =
 structure_given v inside given structure.Case =
     gives_after λ w.
     gives_after λ lines.
-    gives_bind (gives_loop IsBranchSpelled IsBranchSpelled selector_first (branch_rest inside (results lines.0)) (branch_given inside given (results lines.0))) λ branches e.
-    gives_give (node.Case w lines.0 (and_last branches)) (spelled-Case w lines.0 (and_last branches) (and_last_all IsBranchSpelled branches e))
+    let n : ℕ = results lines.0 in
+    gives_bind (gives_loop (IsBranchSpelled n) (IsBranchSpelled n) selector_first (branch_rest inside n) (branch_given inside given n)) λ branches e.
+    gives_give (node.Case w lines.0 (and_last branches)) (spelled-Case w lines.0 (and_last branches) (with_last branches) (and_last_all (IsBranchSpelled n) branches e))
 structure_given v inside given structure.Sequence =
     gives_after λ e.
     gives_after λ x.
     gives_bind (gives_after λ end. frame_given inside given border.FirstFrame) λ f is.
     gives_bind (frames_given inside given f is) λ frames a.
-    gives_give (node.Sequence frames) (spelled-Sequence frames a)
+    gives_give (node.Sequence frames) (spelled-Sequence frames a.0 a.1)
 structure_given v inside given structure.InPlace =
     gives_after λ e. gives_bind (body_given inside given border.InPlace) λ b a. gives_give (node.InPlace b.0 (record { nodes = b.1 })) (spelled-InPlace b.0 (record { nodes = b.1 }) a.lines a.nodes)
 

@@ -1,5 +1,5 @@
 -- The types and numbers that a listing has are such as a listing can write.
-use Rattle.std.specs.Prelude.{◌≡◌, ℕ, ◌≤◌, ℤ, pos, negsuc, ⊤, List}
+use Rattle.std.specs.Prelude.{◌≡◌, ℕ, ◌≤◌, ℤ, pos, negsuc, ⊤, List, length}
 use Rattle.std.specs.List.{All}
 use Rattle.g_values.specs.Spelled.{IsSpelled}
 use Rattle.g_diagram.specs.declared.hierarchy.Hierarchy.{Hierarchy}
@@ -10,7 +10,8 @@ use Rattle.g_diagram.specs.declared.panel.PanelItem.{PanelItem}
 use Rattle.g_diagram.specs.declared.panel.PanelItem.TheVariants.{Control, Indicator}
 use Rattle.g_diagram.specs.declared.node.Tunnel.{Tunnel}
 use Rattle.g_diagram.specs.declared.node.Tunnel.TheVariants as line
-use Rattle.g_diagram.specs.Lines.{Kind, Const, Apply, Shows, Shared, Obtain, Read, Write, Call, Loop, Case, Sequence, InPlace, entries_of}
+use Rattle.g_diagram.specs.Lines.{Arm, Kind, Const, Apply, Shows, Shared, Obtain, Read, Write, Call, Loop, Case, Sequence, InPlace, entries_of}
+use Rattle.g_listing_grammar.specs.Nodes.{results}
 use Rattle.g_listing_grammar.specs.Listing.{IsListing}
 
 abbrev pub IsItemSpelled : PanelItem → Type 0
@@ -42,8 +43,12 @@ IsLineSpelled (line.Ref reference inner next same code) = ⊤
 IsLineSpelled (line.Element array index inner next outer) = ⊤
 IsLineSpelled (line.Field field cluster inner next outer) = field ≤ 63
 
--- The type of a constant or a queue's values, the size of a queue, and the lines at a border. Those of a case and of a sequence have neither
--- a type nor a number.
+-- a branch has a selector, and gives as many values as its case has results
+abbrev pub IsArmSpelled : (results : ℕ) → Arm → Type 0
+IsArmSpelled n arm = (1 ≤ length arm.selectors) × (length arm.gives ≡ n)
+
+-- The type of a constant or a queue's values, the size of a queue, the lines at a border, and the branches and frames. The lines of a case
+-- and of a sequence have neither a type nor a number.
 abbrev pub IsKindSpelled : Kind → Type 0
 IsKindSpelled (Const t literal out) = IsSpelled t
 IsKindSpelled (Apply op inputs outputs) = ⊤
@@ -54,8 +59,8 @@ IsKindSpelled (Read object out) = ⊤
 IsKindSpelled (Write object input) = ⊤
 IsKindSpelled (Call vi inputs outputs) = ⊤
 IsKindSpelled (Loop count stop iteration lines body) = All IsLineSpelled lines
-IsKindSpelled (Case selector lines arms) = ⊤
-IsKindSpelled (Sequence parts) = ⊤
+IsKindSpelled (Case selector lines arms) = (1 ≤ length arms) × All (IsArmSpelled (results lines)) arms
+IsKindSpelled (Sequence parts) = 1 ≤ length parts
 IsKindSpelled (InPlace lines body finish) = All IsLineSpelled lines
 
 pub record IsViSpelled (vi : Vi) : Type 0 where
@@ -69,3 +74,11 @@ AreSpelled h = All IsViSpelled h.vis
 -- what is read can be written
 abbrev pub ReadsSpelled : Type 0
 ReadsSpelled = (bytes : List ℕ) (h : Hierarchy) → IsListing bytes h → AreSpelled h
+
+-- What every hierarchy is that a listing has. It is not all that a listing asks for: names, literals and levels are left out.
+pub record IsWritable (h : Hierarchy) : Type 0 where
+  pub some : 1 ≤ length h.vis
+  pub spelled : AreSpelled h
+
+abbrev pub ReadsWritable : Type 0
+ReadsWritable = (bytes : List ℕ) (h : Hierarchy) → IsListing bytes h → IsWritable h
