@@ -1,3 +1,7 @@
+# A polynomial of one control: x squared, and 3 times x, less 7.
+#
+#   ./grun run Main x=4 < examples/polynomial.g
+#   y = 21
 glisting 1
 vi Main nonreentrant same
   control x i32 -> x

@@ -1,3 +1,8 @@
+# A case that leaves values out, and a text where a number is wanted.
+#
+#   ./grun check Main < examples/uncovered.g
+#   Main:4.0 rule 18
+#   Main:11.2 rule 16
 glisting 1
 vi Main
 control a i32 -> a

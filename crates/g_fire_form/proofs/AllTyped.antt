@@ -11,7 +11,9 @@ use Rattle.g_diagram.specs.declared.panel.PanelItem.TheVariants.{Control, Indica
 use Rattle.g_diagram.specs.Lines.{Wire, Entry, Kind, Const, Apply, Shows}
 use Rattle.g_diagram.specs.Operands.{Line, Freedom, entries_lines, control_lines}
 use Rattle.g_diagram.specs.Ports.{Port, ports_in, sources, consumers, are_joined}
-use Rattle.g_rules_lines.specs.Lines.{Arities, fits, fits_primitive}
+use Rattle.g_operations.specs.Rows.{fits, primitive_row}
+use Rattle.g_rules_lines.specs.Arity.{fits_arity}
+use Rattle.g_rules_lines.specs.Callees.{Arities}
 use Rattle.g_typing.specs.Types.{Types, wire_types}
 use Rattle.g_typing.specs.Rows.{has_rows, is_none_of, outputs_fit, row_misses, primitive_misses, kind_misses}
 use Rattle.g_typing.specs.Typing.{Given, Callees, Objects, IsGivenTo, AreTypes, given, given_each, all_given, all_kept_if, row_after, controls_given, panel_type}
@@ -75,7 +77,7 @@ inputs_known M d (None ∷ ws) wired each = absurd (refute wired)
 inputs_known M d (Some n ∷ ws) wired each = known_by M d n ws (M d n) refl (each n (inl refl)) (inputs_known M d ws wired (λ m is. each m (inr is)))
 
 outputs_typed : (d l i : ℕ) (p : Primitive) (ts : List Ty) (outs : List Wire) (r : Option (List Ty)) → row_of p ts ≡ r → is_none_of (row_misses 0 l p (length outs) ts r) ≡ true
-    → fits_primitive p i (length outs) ≡ true → HaveTypes (given_each d outs (all_kept_if true r))
+    → fits (primitive_row p) i (length outs) ≡ true → HaveTypes (given_each d outs (all_kept_if true r))
 outputs_typed d l i p ts outs None is rows fit = absurd (refute rows)
 outputs_typed d l i p ts outs (Some us) is rows fit = each_typed d outs us (as_many p i (length outs) ts us is fit (fitting (outputs_fit p (length outs) (length us)) refl))
   where
@@ -84,7 +86,7 @@ outputs_typed d l i p ts outs (Some us) is rows fit = each_typed d outs us (as_m
     fitting false e = absurd (let no : is_none_of (row_misses 0 l p (length outs) ts (Some us)) ≡ false = rw (e) refl in refute (sym no ∙ rows))
 
 primitive_typed : (M : Types) (l d : ℕ) (p : Primitive) (ins outs : List Wire) → AllKnown M d ins → is_none_of (kind_misses M 0 l d (Apply p ins outs)) ≡ true
-    → fits_primitive p (length ins) (length outs) ≡ true → HaveTypes (given_each d outs (all_kept_if (is_none_of (kind_misses M 0 l d (Apply p ins outs))) (row_after p (wire_types M d ins))))
+    → fits (primitive_row p) (length ins) (length outs) ≡ true → HaveTypes (given_each d outs (all_kept_if (is_none_of (kind_misses M 0 l d (Apply p ins outs))) (row_after p (wire_types M d ins))))
 primitive_typed M l d p ins outs known rows fit =
     let P : Bool → Type 0 = λ b. HaveTypes (given_each d outs (all_kept_if b (row_after p (wire_types M d ins)))) in
     subst P (sym rows)
@@ -98,7 +100,7 @@ pub record IsKept (types : Types) (known : Arities) (e : Entry) : Type 0 where
   pub plain : is_plain_kind e.kind ≡ true
   pub wired : are_wired e.kind ≡ true
   pub rows : has_rows types e ≡ true
-  pub fit : fits known e.kind ≡ true
+  pub fit : fits_arity known e.kind ≡ true
 
 test_of : (test : Entry → Bool) (es : List Entry) → list_all test es ≡ true → (e : Entry) → IsOf e es → test e ≡ true
 test_of test [] h e is = absurd is
@@ -126,7 +128,7 @@ read_among d (w ∷ ws) n (inr is) = inr (read_among d ws n is)
 
 module _ (called : Callees) (panel : List PanelItem) (free : Freedom) (es : List Entry) (types : Types) (known : Arities) (typing : AreTypes called panel es types)
     (plain : list_all is_plain_entry es ≡ true) (wired : list_all (λ e. are_wired e.kind) es ≡ true) (rows : list_all (has_rows types) es ≡ true)
-    (fit : list_all (λ e. fits known e.kind) es ≡ true)
+    (fit : list_all (λ e. fits_arity known e.kind) es ≡ true)
     (sourced : list_all (has_source (ports_in (control_lines 1 panel ++ entries_lines free es))) (consumers (ports_in (control_lines 1 panel ++ entries_lines free es))) ≡ true) where
   abbrev all : List Step
   all = vi_steps called panel es
@@ -139,7 +141,7 @@ module _ (called : Callees) (panel : List PanelItem) (free : Freedom) (es : List
     plain = test_of is_plain_entry es plain e is;
     wired = test_of (λ e. are_wired e.kind) es wired e is;
     rows = test_of (has_rows types) es rows e is;
-    fit = test_of (λ e. fits known e.kind) es fit e is;
+    fit = test_of (λ e. fits_arity known e.kind) es fit e is;
   }
 
   -- what gives the name of an input
@@ -160,7 +162,7 @@ module _ (called : Callees) (panel : List PanelItem) (free : Freedom) (es : List
       by_kind (Apply p ins outs) pass is = name_sourced (line_of (has_source ps) e (Apply p ins outs)) 1 ins pass n is
       by_kind _ pass is = absurd is
 
-  kind_typed : (e : Entry) (k : Kind) → is_plain_kind k ≡ true → are_wired k ≡ true → is_none_of (kind_misses types 0 e.line e.diagram k) ≡ true → fits known k ≡ true
+  kind_typed : (e : Entry) (k : Kind) → is_plain_kind k ≡ true → are_wired k ≡ true → is_none_of (kind_misses types 0 e.line e.diagram k) ≡ true → fits_arity known k ≡ true
       → (s : Step) → ((n : List ℕ) → IsWire n (taken k) → IsRead s.reads e.diagram n → is_some (types e.diagram n) ≡ true)
       → IsIn s (kind_steps called (panel_type panel) e.line e.diagram k) → HaveTypes (s.gives types)
   kind_typed e (Const t literal out) is_plain named there fitting s each (inl q) = subst (λ (y : Step). HaveTypes (y.gives types)) q (one_typed e.diagram out t)

@@ -2,7 +2,7 @@
 use Rattle.std.proofs.Common.{◌≡◌, Bool, true, false, cond, ◌&&◌, ℕ, ◌==◌, List, [], ◌∷◌, length, Option, Some, None, refl, ap, sym, ◌∙◌}
 use Rattle.std.specs.List.{list_all}
 use Rattle.std.proofs.lemmas.Bool.{eqb-true}
-use Rattle.std.specs.Prelude.{nat_le, nat_lt}
+use Rattle.std.specs.Prelude.{nat_le}
 use Rattle.g_types.specs.declared.rep.Rep.{Rep}
 use Rattle.g_types.specs.declared.ty.Ty.{Ty}
 use Rattle.g_types.specs.declared.ty.Ty.TheVariants as ty
@@ -14,7 +14,7 @@ use Rattle.g_prims_definitions.specs.Kinds.{wide}
 use Rattle.g_prims_definitions.specs.Row.{Row, Repeats, read, another, ends, given, one, two, three}
 use Rattle.g_prims_definitions.specs.Rows.{row, row_of, when, single, twice, converted, selected, is_shallow}
 use Rattle.g_typing.specs.Rows.{outputs_fit}
-use Rattle.g_rules_lines.specs.Lines.{counts, fits_primitive}
+use Rattle.g_operations.specs.Rows.{fits, primitive_row}
 use Rattle.g_fire_form.proofs.Logic.{and_right, some_is}
 
 -- so many types are given, if any
@@ -90,11 +90,11 @@ repeats_gives most allowed outs n h (t ∷ ts) =
 -- ---- primitives
 
 -- the counts of inputs and outputs are those of the row
-by_count : (r : Row) (ts us : List Ty) (i m j n : ℕ) → Gives r n → read r ts ≡ Some us → counts i m j n ≡ true → m ≡ length us
+by_count : (r : Row) (ts us : List Ty) (i m j n : ℕ) → Gives r n → read r ts ≡ Some us → ((i == j) && (m == n)) ≡ true → m ≡ length us
 by_count r ts us i m j n gives row_is fit = eqb-true m n (and_right (i == j) (m == n) fit) ∙ sym (gives ts us row_is)
 
 -- a primitive with as many outputs as rule 5 says has as many as its row gives
-pub as_many : (p : Primitive) (i m : ℕ) (ts us : List Ty) → row_of p ts ≡ Some us → fits_primitive p i m ≡ true → outputs_fit p m (length us) ≡ true → m ≡ length us
+pub as_many : (p : Primitive) (i m : ℕ) (ts us : List Ty) → row_of p ts ≡ Some us → fits (primitive_row p) i m ≡ true → outputs_fit p m (length us) ≡ true → m ≡ length us
 as_many op.Add i m ts us e f g = by_count (row op.Add) ts us i m 2 1 (two_gives _ _ 1 (λ x y. single_long _)) e f
 as_many op.Sub i m ts us e f g = by_count (row op.Sub) ts us i m 2 1 (two_gives _ _ 1 (λ x y. single_long _)) e f
 as_many op.Mul i m ts us e f g = by_count (row op.Mul) ts us i m 2 1 (two_gives _ _ 1 (λ x y. single_long _)) e f
@@ -148,7 +148,7 @@ as_many op.BytesStr i m ts us e f g = by_count (row op.BytesStr) ts us i m 1 1 (
 as_many op.NumStr i m ts us e f g = by_count (row op.NumStr) ts us i m 1 1 (one_gives _ 1 (λ x. when_long _ (ty.Str ∷ []))) e f
 as_many op.StrNum i m ts us e f g = by_count (row op.StrNum) ts us i m 1 2 (one_gives _ 2 (λ s. when_long _ _)) e f
 as_many op.Bundle i m ts us e f g =
-    eqb-true m 1 (and_right (nat_lt i 65) (m == 1) (and_right (nat_lt 0 i) (nat_lt i 65 && (m == 1)) f)) ∙ sym (repeats_gives 64 is_shallow (λ xs. ty.Cluster xs ∷ []) 1 (λ xs. refl) ts us e)
+    eqb-true m 1 (and_right (nat_le 1 i && nat_le i 64) (m == 1) f) ∙ sym (repeats_gives 64 is_shallow (λ xs. ty.Cluster xs ∷ []) 1 (λ xs. refl) ts us e)
 as_many op.Unbundle i m ts us e f g = eqb-true m (length us) g
 as_many (op.Get k) i m ts us e f g = by_count (row (op.Get k)) ts us i m 1 1 (one_gives _ 1 (λ c. single_long _)) e f
 as_many (op.Set k) i m ts us e f g = by_count (row (op.Set k)) ts us i m 2 1 (two_gives _ _ 1 (λ c x. when_long _ (c ∷ []))) e f

@@ -16,7 +16,7 @@ use Rattle.g_tokens.specs.declared.token.Token.{Token}
 use Rattle.g_tokens.specs.declared.token.Token.TheVariants as token
 use Rattle.g_tokens.specs.declared.token.Mark.TheVariants as mark
 use Rattle.g_tokens.specs.Tokens.{characters, longest, lexemes, lines, placed_tokens, places_of, tokens_of}
-use Rattle.g_listing_words.specs.Operations.{row_named}
+use Rattle.g_listing_words.specs.Operations.{operation_of}
 use Rattle.g_listing_grammar.specs.Types as type_forms
 use Rattle.g_listing_grammar.specs.Literals.{literal_rest}
 use Rattle.g_listing_grammar.specs.Nodes.{node_rest}
@@ -103,7 +103,7 @@ unfolding longest characters lexemes lines
 same_tokens = refl
 
 reads_so : HasHierarchy listed h
-unfolding repeat type_forms.types literal_rest node_rest row_named
+unfolding repeat type_forms.types literal_rest node_rest operation_of
 reads_so = takes listing listed h [] refl
 
 is_listing : IsListing bytes h
@@ -167,7 +167,7 @@ unfolding longest characters lexemes lines
 same_wide = refl
 
 stops_there : read listing wide_tokens ≡ Err wide_rest
-unfolding repeat type_forms.types literal_rest node_rest row_named
+unfolding repeat type_forms.types literal_rest node_rest operation_of
 stops_there = refl
 
 -- no type is called `i33`

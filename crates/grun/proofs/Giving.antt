@@ -1,5 +1,5 @@
 -- What settings give: one list of values at most, and up to the first wrong one.
-use Rattle.std.proofs.Common.{◌≡◌, ◌⊎◌, ℕ, zero, suc, ◌+◌, List, [], ◌∷◌, ◌++◌, take, drop, arith, Option, Some, None, inl, inr, refl, sym, ap, ◌∙◌, subst, append_assoc}
+use Rattle.std.proofs.Common.{◌≡◌, ℕ, zero, suc, ◌+◌, List, [], ◌∷◌, ◌++◌, take, drop, arith, Option, Some, None, refl, sym, ap, ◌∙◌, subst, append_assoc}
 use Rattle.std.specs.Prelude.{MatchOption}
 use Rattle.g_types.specs.declared.ty.Ty.{Ty}
 use Rattle.g_values.specs.declared.value.Value.{Value}
@@ -7,7 +7,7 @@ use Rattle.g_valtext.specs.Spellings.{IsSpelling}
 use Rattle.g_valtext.proofs.Exact.{one_value}
 use Rattle.g_line.specs.declared.forms.Setting.{Setting}
 use Rattle.grun.specs.Settings.{Named, find, IsValueFor, Give, IsWrongSetting}
-use Rattle.grun.proofs.Split.{splits}
+use Rattle.grun.proofs.Split.{Splits, together, ahead, behind, splits}
 
 -- ---- the value of a setting
 
@@ -92,10 +92,10 @@ wrong_gives cs settings s vs w g = let front = given_front cs w.before s w.after
 pub wrong_one : (cs : Named Ty) (settings : List Setting) (s t : Setting) → IsWrongSetting cs settings s → IsWrongSetting cs settings t → s ≡ t
 wrong_one cs settings s t v w = by (splits v.before w.before s t v.after w.after (sym v.split ∙ w.split))
   where
-    by : ((v.before ≡ w.before) × (s ≡ t)) ⊎ (((more : List Setting) × (w.before ≡ v.before ++ s ∷ more)) ⊎ ((more : List Setting) × (v.before ≡ w.before ++ t ∷ more))) → s ≡ t
-    by (inl same) = same.1
-    by (inr (inl p)) = let front = given_front cs v.before s p.0 w.before w.values p.1 w.right in absurd (v.wrong front.0 front.1)
-    by (inr (inr p)) = let front = given_front cs w.before t p.0 v.before v.values p.1 v.right in absurd (w.wrong front.0 front.1)
+    by : Splits v.before w.before s t → s ≡ t
+    by (together p q) = q
+    by (ahead more p) = let front = given_front cs v.before s more w.before w.values p w.right in absurd (v.wrong front.0 front.1)
+    by (behind more p) = let front = given_front cs w.before t more v.before v.values p v.right in absurd (w.wrong front.0 front.1)
 
 -- one setting more of the front
 pub front_more : (settings : List Setting) (k : ℕ) (s : Setting) (rest : List Setting) → drop k settings ≡ s ∷ rest → take (k + 1) settings ≡ take k settings ++ s ∷ []

@@ -47,7 +47,7 @@ same_lists (b ∷ bs) [] s t there back = absurd (none_held b (there b (has_firs
 same_lists (b ∷ bs) (c ∷ cs) s t there back =
     let first : b ≡ c =
     first_or_later b c cs (b ≡ c) (there b (has_first b bs)) (λ same. same)
-    (λ late. first_or_later c b bs (b ≡ c) (back c (has_first c cs)) sym (λ later. absurd (not_both b c (after_all b c bs s.0 later) (after_all c b cs t.0 late)))) in
+    (λ late. first_or_later c b bs (b ≡ c) (back c (has_first c cs)) (λ same. sym same) (λ later. absurd (not_both b c (after_all b c bs s.0 later) (after_all c b cs t.0 late)))) in
     let on : (x : Break) → has_break bs x ≡ true → has_break cs x ≡ true = (λ x e.
     first_or_later x c cs (has_break cs x ≡ true) (there x (stands_later x b bs e)) (λ same. absurd (before_itself b (subst (IsBefore b) (same ∙ sym first) (after_all b x bs s.0 e)))) (λ e. e)) in
     let off : (x : Break) → has_break cs x ≡ true → has_break bs x ≡ true = (λ x e.

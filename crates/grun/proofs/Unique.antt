@@ -33,7 +33,7 @@ use Rattle.g_fire.specs.Print.{print}
 use Rattle.grun.specs.Texts.{line_of, breaks_text, spot_text}
 use Rattle.grun.specs.Settings.{Named, Give, IsWrongSetting, controls, control_values}
 use Rattle.grun.specs.Answer.{Reply, reply, LIMIT, Runs, IsRunAnswer, broken, other_form, control, ran, IsAnswer, usage, too_long, syntax, printed, checked_broken, checked_ok, runs}
-use Rattle.grun.proofs.Split.{Splits, splits}
+use Rattle.grun.proofs.Split.{Splits, together, ahead, behind, splits}
 use Rattle.grun.proofs.Giving.{give_one, wrong_gives, wrong_one}
 use Rattle.grun.proofs.Ordered.{one_list, none_listed}
 
@@ -77,9 +77,9 @@ one_spot : (bytes : List ℕ) (s t : Spot) → IsFirstRefused bytes s → IsFirs
 one_spot bytes s t a b = by (splits a.before b.before (a.token, s) (b.token, t) a.after b.after (sym a.split ∙ b.split))
   where
     by : Splits a.before b.before (a.token, s) (b.token, t) → s ≡ t
-    by (inl same) = ap (λ (x : Token × Spot). x.1) same.1
-    by (inr (inl p)) = absurd (not_behind bytes s t a b p.0 p.1)
-    by (inr (inr p)) = absurd (not_behind bytes t s b a p.0 p.1)
+    by (together p q) = ap (λ (x : Token × Spot). x.1) q
+    by (ahead more p) = absurd (not_behind bytes s t a b more p)
+    by (behind more p) = absurd (not_behind bytes t s b a more p)
 
 -- ---- a hierarchy that is checked or run
 
