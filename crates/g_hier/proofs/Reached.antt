@@ -197,7 +197,7 @@ sound os P step met (p ∷ ps) after (entered {within = w} h i e) m f v a =
     let here : P p.space.vi = f p.space.vi (or_left (p.space.vi == p.space.vi) (has_space ps p.space.vi) (equal p.space.vi p.space.vi refl)) in
     let now : (u : ℕ) → has_space (met ++ p ∷ []) u ≡ true → P u = λ u x. ⊎_elim (m u) (λ same. subst P same here) (one_more_met met p u x) in
     let inside : (u : ℕ) → has_space into u ≡ true → P u = λ u x. step p.space.vi u here
-        (and_both (calls os p.space.vi u) _ (entered_only os (length met) p.system (calls_at os p.space.vi) u x) (entered_is os (length met) p.system (calls_at os p.space.vi) u x)) in
+    (and_both (calls os p.space.vi u) _ (entered_only os (length met) p.system (calls_at os p.space.vi) u x) (entered_is os (length met) p.system (calls_at os p.space.vi) u x)) in
     sound os P step w ps after e (sound os P step (met ++ p ∷ []) into w i now inside) (λ u x. f u (or_right (p.space.vi == u) (has_space ps u) x)) v a
 
 main_only : (o : Option Outline) (main v : ℕ) → has_space (main_placed o main) v ≡ true → main ≡ v
