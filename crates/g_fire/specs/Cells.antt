@@ -1,4 +1,4 @@
--- One cell of a panel set.
+-- Inner: one cell of a panel set.
 use Rattle.std.specs.Prelude.{ℕ, List, [], ◌∷◌, slice_set}
 use Rattle.g_values.specs.declared.value.Value.{Value}
 use Rattle.g_fire.specs.declared.state.Content.{Content}

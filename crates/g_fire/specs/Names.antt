@@ -1,4 +1,4 @@
--- The sources of a VI's own diagram by their names, collected line by line. Of two with one name the first counts.
+-- Inner: the sources of a VI's own diagram by their names, collected line by line. Of two with one name the first counts.
 use Rattle.std.specs.Prelude.{ℕ, ◌+◌, List, [], ◌∷◌, ◌++◌, length, Option, Some, None, bytes_eq, if◌then◌else◌}
 use Rattle.g_diagram.specs.declared.node.Branch.{Branch}
 use Rattle.g_diagram.specs.declared.node.Diagram.{Diagram}

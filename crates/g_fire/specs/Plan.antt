@@ -1,4 +1,4 @@
--- What the code keeps of each node, and what its firing does by it.
+-- Inner: what the code keeps of each node, and what its firing does by it.
 use Rattle.std.specs.Prelude.{◌≡◌, ℕ, ◌+◌, ◌≤◌, ◌==◌, Bool, true, false, ◌&&◌, not, IsTrue, ⊤, List, [], ◌∷◌, map, length, slice_get, Option, Some, None, is_some}
 use Rattle.std.specs.List.{All, list_all}
 use Rattle.g_types.specs.declared.ty.Ty.{Ty}

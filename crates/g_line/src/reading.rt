@@ -193,8 +193,7 @@ mod tests {
             return Ok(());
         };
         assert_eq!(rt; main.as_slice(), b"Main".as_slice());
-        let wanted: [(u64, &[u8], &[u8]); 3] =
-            [(3, b"a", b"1"), (4, b"b", b""), (5, b"a", b"x=y")];
+        let wanted: [(u64, &[u8], &[u8]); 3] = [(3, b"a", b"1"), (4, b"b", b""), (5, b"a", b"x=y")];
         assert_eq!(rt; settings.len(), wanted.len());
         for (setting, (word, name, text)) in settings.as_slice().iter().zip(wanted) {
             assert_eq!(rt; setting.word, word);

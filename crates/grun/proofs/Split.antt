@@ -8,7 +8,7 @@ pub data Splits {A : Type 0} (xs us : List A) (x u : A) : Type 0 where
   behind : (more : List A) → xs ≡ us ++ u ∷ more → Splits xs us x u
 
 one_before : {A : Type 0} (a b : A) (xs us : List A) (x u : A) → a ≡ b → Splits xs us x u → Splits (a ∷ xs) (b ∷ us) x u
-one_before a b xs us x u e (together p q) = together cc q
+one_before a b xs us x u e (together p q) = let same : a ∷ xs ≡ b ∷ us = cc in together same q
 one_before a b xs us x u e (ahead more p) = ahead more cc
 one_before a b xs us x u e (behind more p) = behind more cc
 

@@ -75,9 +75,11 @@ fn answers(
     let mut sink = MemorySink::new(16, calls(rt, fails.1)?, room);
     let outcome = grun_call(rt.alloc(), &words, &mut source, &mut sink);
     let fired = wanted.0 == 0 && call.0.starts_with("run ");
-    Ok(outcome.status == wanted.0
-        && sink.written() == wanted.1.as_bytes()
-        && outcome.trace.is_some() == fired)
+    Ok(
+        outcome.status == wanted.0
+            && sink.written() == wanted.1.as_bytes()
+            && outcome.trace.is_some() == fired,
+    )
 }
 
 #[test]

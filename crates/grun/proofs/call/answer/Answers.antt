@@ -1,5 +1,5 @@
 -- proofs/call/answer/Answers.antt
-use Rattle.std.proofs.Common.{ℕ, zero, suc, ◌<◌, List, [], ◌∷◌, length, Option, Some, None, Err, map, ap, sym, subst, ◌++◌, codes, arith}
+use Rattle.std.proofs.Common.{ℕ, zero, suc, ◌<◌, List, [], ◌∷◌, length, Option, Some, None, Err, map, refl, ap, sym, subst, ◌++◌, codes, arith}
 use Rattle.std.specs.String.{string_bytes}
 use Rattle.std.specs.Fmt.{decimal}
 use Rattle.g_fire.specs.declared.firing.Firing.{Firing}
@@ -9,7 +9,7 @@ use Rattle.g_line.specs.Forms.{HasLine}
 use Rattle.g_line.specs.Usage.{IsFirstWrong, IsRefusal}
 use Rattle.grun.specs.Texts.{line_of}
 use Rattle.grun.specs.Answer.{Reply, IsAnswer, reply, LIMIT, usage, too_long}
-use Rattle.grun.specs.Call.{Answers, answer}
+use Rattle.grun.specs.Call.{Answers, answer, fault}
 use Rattle.grun.proofs.call.answer.Goals as goal
 
 usage_answers : (words : List (List ℕ)) (left : Option (List ℕ)) (k : ℕ) → IsFirstWrong words k → Answers words left None (reply 1 (line_of (codes "usage at word " ++ decimal k)))
@@ -33,6 +33,11 @@ returns-in-Err-Usage-clause-answer g c =
     let words = map string_bytes c.args.words.now.items in
     rw (c.plain.ensures.trace, c.plain.ensures.status, c.plain.ensures.text, c.in_ok-numbered-in-Err-Usage.ensures)
     (answer (usage_answers words (g.S.Source.left c.args.source.now) c.in-Err-Usage.k (subst (IsRefusal words) c.in-Err-Usage.field-0-is c.in-Err-Usage.ensures.refused)))
+
+pub returns-in-Err-Fault-clause-answer : goal.returns-in-Err-Fault-clause-answer
+returns-in-Err-Fault-clause-answer g c =
+    rw (c.plain-in-Err-Fault.ensures.trace, c.plain-in-Err-Fault.ensures.status, c.plain-in-Err-Fault.ensures.text, c.in_ok-fixed-in-Err-Fault.ensures)
+    (fault c.in-Ok.line c.in-Ok.ensures.has refl (c.in-Err-Fault.ensures.fault (ap Err c.in-Err-Fault.field-0-is)) refl)
 
 pub returns-in-Err-TooLong-clause-answer : goal.returns-in-Err-TooLong-clause-answer
 returns-in-Err-TooLong-clause-answer g c =
