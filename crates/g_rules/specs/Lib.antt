@@ -1,2 +1,3 @@
+pub mod TooLarge
 pub mod Checked
 pub mod Parts
