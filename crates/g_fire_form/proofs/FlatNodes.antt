@@ -10,7 +10,7 @@ use Rattle.g_diagram.specs.Lines.{Wire, Entry, panel_entries, nodes_entries, ent
 use Rattle.g_diagram.specs.Operands.{Line, Freedom, entries_lines}
 use Rattle.g_diagram.specs.Ports.{Port, ports_in, consumers}
 use Rattle.g_typing.proofs.Ready.{IsOf}
-use Rattle.g_wires.specs.Wiring.{is_missing}
+use Rattle.g_wires.specs.Unwired.{is_missing}
 use Rattle.g_fire.specs.Flat.{is_flat_node}
 use Rattle.g_fire_form.specs.Plain.{is_plain_node}
 use Rattle.g_fire_form.proofs.Logic.{refute, and_left, and_right, both}

@@ -10,10 +10,16 @@ use Rattle.g_diagram.specs.declared.hierarchy.Hierarchy.{Hierarchy}
 use Rattle.g_diagram.specs.Leads.{Leads}
 use Rattle.g_diagram.specs.Lines.{Entry, entries_of}
 use Rattle.g_diagram.specs.Ports.{Port, ports_of, sources, consumers, are_joined, is_wired, has_wire}
-use Rattle.g_rules_lines.specs.Lines.{Known, known_of, whole, fits, miscounted}
-use Rattle.g_rules_lines.specs.Lists.{called_by, structured_by, lined_by, renamed_vis, absent_main}
-use Rattle.g_rules_lines.specs.Spots.{Spot, break}
-use Rattle.g_wires.specs.Wiring.{spot, lacks_source, unsourced, repeated, unused, is_missing, unwired}
+use Rattle.g_rules_lines.specs.Arity.{fits_arity, miscounted}
+use Rattle.g_rules_lines.specs.Lists.{Known, known_of, called_by, structured_by, lined_by}
+use Rattle.g_rules_lines.specs.Spots.{whole, Spot, break}
+use Rattle.g_rules_lines.specs.RepeatedNames.{renamed_vis}
+use Rattle.g_rules_lines.specs.UnknownVis.{absent_main}
+use Rattle.g_wires.specs.MissingSources.{lacks_source, unsourced}
+use Rattle.g_wires.specs.SecondSources.{repeated}
+use Rattle.g_wires.specs.Spots.{spot}
+use Rattle.g_wires.specs.UnusedSources.{unused}
+use Rattle.g_wires.specs.Unwired.{is_missing, unwired}
 use Rattle.g_rules_breaks.specs.Breaks.{break_cmp, has_break}
 use Rattle.g_wires.specs.Breaks.{named_in, plain_in, each_from, plain_breaks, IsWiring}
 use Rattle.g_rules_breaks.proofs.Ordered.{same_itself}
@@ -101,10 +107,10 @@ module _ (h : Hierarchy) (main : List ℕ) (wired : IsWiring h main []) (k : ℕ
       (had_back b (map (break k 1) (unsourced ps)) _ (had_back b (map (break k 2) (repeated ps)) _ (had_back b (map (break k 3) (unused ps)) (map (break k 4) (unwired ps)) has))))
 
   -- rule 5
-  pub all_fit : list_all (λ e. fits known.arities e.kind) es ≡ true
+  pub all_fit : list_all (λ e. fits_arity known.arities e.kind) es ≡ true
   all_fit =
-      passes_too (λ e. not (not (fits known.arities e.kind))) (λ e. fits known.arities e.kind) (λ e h. twice (fits known.arities e.kind) h) es
-      (none_fails k 5 whole (λ e. not (fits known.arities e.kind)) es (λ b has. none_called b (had_front b (map (break k 5) (miscounted known.arities es)) _ has)))
+      passes_too (λ e. not (not (fits_arity known.arities e.kind))) (λ e. fits_arity known.arities e.kind) (λ e h. twice (fits_arity known.arities e.kind) h) es
+      (none_fails k 5 whole (λ e. not (fits_arity known.arities e.kind)) es (λ b has. none_called b (had_front b (map (break k 5) (miscounted known.arities es)) _ has)))
     where
       twice : (b : Bool) → not (not b) ≡ true → b ≡ true
       twice true e = refl

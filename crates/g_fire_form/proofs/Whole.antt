@@ -6,7 +6,7 @@ use Rattle.g_diagram.specs.declared.hierarchy.Vi.{Vi}
 use Rattle.g_diagram.specs.Lines.{entries_of}
 use Rattle.g_diagram.specs.Operands.{control_lines}
 use Rattle.g_diagram.specs.Ports.{freedom}
-use Rattle.g_rules_lines.specs.Lines.{known_of}
+use Rattle.g_rules_lines.specs.Lists.{known_of}
 use Rattle.g_typing.specs.Types.{Types}
 use Rattle.g_typing.specs.Typing.{IsTyping, called_panel}
 use Rattle.g_typing.proofs.Agreed.{all_ready}

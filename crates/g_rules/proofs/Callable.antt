@@ -10,9 +10,13 @@ use Rattle.g_diagram.specs.Lines.{Kind, Call, Entry, entries_of}
 use Rattle.g_diagram.specs.Ports.{first_vi, ports_of}
 use Rattle.g_hier.specs.Outlines.{number_of, outlines_of, AreKnown}
 use Rattle.g_hier.proofs.Known.{NamesVi, name_known, calls_known}
-use Rattle.g_rules_lines.specs.Lines.{known_of, arity, names_no_vi, uncalled, whole, miscounted, unlocated, names_object}
-use Rattle.g_rules_lines.specs.Lists.{renamed_items, renamed_vis, called_by, structured_by, lined_by, absent_main}
-use Rattle.g_rules_lines.specs.Spots.{break}
+use Rattle.g_rules_lines.specs.Arity.{miscounted}
+use Rattle.g_rules_lines.specs.Callees.{arity}
+use Rattle.g_rules_lines.specs.Lists.{known_of, called_by, structured_by, lined_by}
+use Rattle.g_rules_lines.specs.PanelObjects.{unlocated, names_object}
+use Rattle.g_rules_lines.specs.Spots.{whole, break}
+use Rattle.g_rules_lines.specs.UnknownVis.{names_no_vi, uncalled, absent_main}
+use Rattle.g_rules_lines.specs.RepeatedNames.{renamed_items, renamed_vis}
 use Rattle.g_wires.specs.Breaks.{IsWiring, named_in, plain_in, each_from, plain_breaks}
 use Rattle.g_rules_breaks.proofs.Ordered.{none_in}
 

@@ -8,7 +8,7 @@ use Rattle.std.specs.Map.{update}
 use Rattle.std.specs.Option.{option_map, option_or}
 use Rattle.std.specs.BTreeMap.{get_by}
 use Rattle.std.proofs.lemmas.Slice.Eq.{bytes_eq-Decides}
-use Rattle.g_rules_lines.specs.declared.arities.Arity.{Arity}
+use Rattle.g_rules_lines.specs.declared.callees.Arity.{Arity}
 use Rattle.g_rules_lines.specs.Names.{Table, seen_arity, arity_in}
 
 abbrev pub arity_found : Table → List ℕ → Option Arity

@@ -11,8 +11,8 @@ use Rattle.g_diagram_table.specs.Seen.{seen_arm}
 use Rattle.g_rules_selectors.specs.declared.taken.Taken.{Taken}
 use Rattle.g_rules_selectors.specs.Clashes.{clashes}
 use Rattle.g_rules_selectors.specs.Taken.{Keeps}
-use Rattle.g_rules_lines.specs.Spots.{Spot}
-use Rattle.g_rules_lines.specs.Lines.{spot_at, arm_clashes}
+use Rattle.g_rules_lines.specs.Spots.{Spot, spot_at}
+use Rattle.g_rules_lines.specs.CaseValues.{arm_clashes}
 
 abbrev pub selectors_of : List lines.Arm → List Selector
 selectors_of arms = flat_map (λ a. a.selectors) arms

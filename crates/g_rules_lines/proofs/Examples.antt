@@ -15,9 +15,12 @@ use Rattle.g_diagram.specs.declared.place.Break.{Break}
 use Rattle.g_diagram.specs.Lines.{Wire, Entry, entries_of}
 use Rattle.g_diagram.specs.Lines as kind
 use Rattle.g_diagram.proofs.Trees.{Sketch, vi_of, same_entries, Trees, Choices, none, also, Apply, Call, Case, For, While, Read, Write, Shared, Obtain, InPlace, when, end}
-use Rattle.g_rules_lines.specs.Spots.{break}
-use Rattle.g_rules_lines.specs.Lists.{lined_by, renamed_vis, absent_main}
-use Rattle.g_rules_lines.specs.Lines.{known_of, arities, first_queue, queues_in, whole}
+use Rattle.g_rules_lines.specs.Spots.{break, whole}
+use Rattle.g_rules_lines.specs.Lists.{known_of, lined_by}
+use Rattle.g_rules_lines.specs.RepeatedNames.{renamed_vis}
+use Rattle.g_rules_lines.specs.UnknownVis.{absent_main}
+use Rattle.g_rules_lines.specs.Callees.{arities}
+use Rattle.g_rules_lines.specs.Queues.{first_queue, queues_in}
 use Rattle.g_rules_lines.proofs.QueueLemmas.{same_type-same}
 
 abbrev w : List ℕ → Wire
@@ -147,15 +150,26 @@ crowded = sums (add_to (w (codes "a")) (w (codes "a")) (w (codes "w")) (inc_to (
 crowded_broken : broken crowded ≡ at 12 12 0 ∷ at 12 8 0 ∷ at 12 14 0 ∷ []
 crowded_broken = ap (broken_by crowded) (same_entries crowded)
 
--- what stands in a loop that may not stand there isn't looked at, but for its `ref`: inplace; do; while s -> _; do; read a -> s; inplace;
--- ref s -> x | x -> _ _; do; read a -> _; end; end; end
+-- what stands in a loop that may not stand there isn't looked at for that body, but for a `ref`; a body in place in the loop is one of its
+-- own: inplace; do; while s -> _; do; read a -> s; inplace; ref s -> x | x -> _ _; do; read a -> _; end; end; end
 abbrev nested : Sketch
 nested = sums (choosing (also (InPlace []
     (also (While (w (codes "s")) None []
     (also (Read (codes "a") (w (codes "s"))) (also (InPlace (Ref (w (codes "s")) (w (codes "x")) (w (codes "x")) None None ∷ []) (also (Read (codes "a") None) none)) none))) none)) none))
 
-nested_broken : broken nested ≡ at 12 8 0 ∷ at 12 12 0 ∷ []
+nested_broken : broken nested ≡ at 12 8 0 ∷ at 12 14 0 ∷ at 12 12 0 ∷ []
 nested_broken = ap (broken_by nested) (same_entries nested)
+
+-- the loop, and the enqueue in the inner body alone: inplace; do; for a -> _; do; enqueue a a -> _; inplace; do; enqueue a a -> _; end; end; end
+abbrev enqueue_only : Trees → Trees
+enqueue_only ts = also (Shared shared.Enqueue (w (codes "a") ∷ w (codes "a") ∷ []) (None ∷ [])) ts
+
+abbrev enclosed : Sketch
+enclosed = sums (choosing (also (InPlace []
+    (also (For (w (codes "a")) None [] (enqueue_only (also (InPlace [] (enqueue_only none)) none))) none)) none))
+
+enclosed_broken : broken enclosed ≡ at 12 8 0 ∷ at 12 13 0 ∷ []
+enclosed_broken = ap (broken_by enclosed) (same_entries enclosed)
 
 -- one ref, and a case in the body: inplace; ref a -> x | y -> _ _; do; inc x -> y; case x; tunnel x -> z; when default; inc z -> _; end; end
 abbrev modest : Sketch

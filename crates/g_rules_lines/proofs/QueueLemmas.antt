@@ -18,8 +18,8 @@ use Rattle.g_types.specs.declared.ty.Ty.TheFolds.{fold-roll-Ty, ind-Ty, map-Ty}
 use Rattle.g_types.specs.Same.{code, all_same, same_level, same_step, same_type}
 use Rattle.g_types.proofs.SameLemmas.{same_type-true}
 use Rattle.g_rules_lines.specs.declared.queues.Queue.{Queue}
-use Rattle.g_rules_lines.specs.Lines as spec
-use Rattle.g_rules_lines.specs.Lines.{first_queue}
+use Rattle.g_rules_lines.specs.Queues as spec
+use Rattle.g_rules_lines.specs.Queues.{first_queue}
 use Rattle.g_rules_lines.specs.Names.{QueueTable, seen_queue, queue_at, queue_after}
 
 abbrev pub queue_found : QueueTable → List ℕ → Option Queue

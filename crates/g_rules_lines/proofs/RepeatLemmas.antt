@@ -5,7 +5,7 @@ use Rattle.std.specs.List.{list_any}
 use Rattle.std.specs.Str.{bytes_eq}
 use Rattle.std.proofs.lemmas.List.{at_drop_more, take_more}
 use Rattle.std.proofs.lemmas.List.Folds.{list_any_more}
-use Rattle.g_rules_lines.specs.Lines.{named_again}
+use Rattle.g_rules_lines.specs.RepeatedNames.{named_again}
 use Rattle.g_rules_lines.specs.Names.{Names, has_name}
 
 -- one more item, as at a step of a loop

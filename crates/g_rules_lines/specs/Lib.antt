@@ -1,4 +1,13 @@
 pub mod Spots
-pub mod Lines
+pub mod Callees
+pub mod Arity
+pub mod PanelObjects
+pub mod RepeatedNames
+pub mod UnknownVis
+pub mod CaseValues
+pub mod CaseResults
+pub mod InPlaceBodies
+pub mod LoopCounts
+pub mod Queues
 pub mod Lists
 pub mod Names

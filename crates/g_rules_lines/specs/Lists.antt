@@ -1,18 +1,28 @@
--- The breaks on the lines of one VI, and on the names of VIs.
-use Rattle.std.specs.Prelude.{ℕ, List, [], ◌∷◌, ◌++◌, map, if◌then◌else◌, is_some}
+-- The breaks on the lines of one VI.
+use Rattle.std.specs.Prelude.{ℕ, List, ◌++◌, map}
 use Rattle.g_diagram.specs.declared.place.Break.{Break}
 use Rattle.g_diagram.specs.declared.hierarchy.Vi.{Vi}
 use Rattle.g_diagram.specs.declared.panel.PanelItem.{PanelItem}
 use Rattle.g_diagram.specs.Lines.{Entry}
 use Rattle.g_rules_lines.specs.Spots.{break}
-use Rattle.g_rules_lines.specs.Lines.{spot_at, Arities, Queues, Known, named_again, panel_name, names_object, miscounted, unlocated, uncalled, reselected, resultless, misplaced, countless, unequal}
+use Rattle.g_rules_lines.specs.Callees.{Arities, arities}
+use Rattle.g_rules_lines.specs.Arity.{miscounted}
+use Rattle.g_rules_lines.specs.RepeatedNames.{renamed_items}
+use Rattle.g_rules_lines.specs.PanelObjects.{names_object, unlocated}
+use Rattle.g_rules_lines.specs.UnknownVis.{uncalled}
+use Rattle.g_rules_lines.specs.CaseValues.{reselected}
+use Rattle.g_rules_lines.specs.CaseResults.{resultless}
+use Rattle.g_rules_lines.specs.InPlaceBodies.{misplaced}
+use Rattle.g_rules_lines.specs.LoopCounts.{countless}
+use Rattle.g_rules_lines.specs.Queues.{Queues, first_queue, all_queues, unequal}
 
--- 7: each panel line whose name a line before it has, and each VI whose name one before it has
-abbrev pub renamed_items : (number : ℕ) → List PanelItem → List Break
-renamed_items number panel = named_again panel_name (λ line. break number 7 (spot_at line 0)) 1 [] panel
+-- what the rules on one VI need to know of the whole listing
+pub record Known : Type 0 where
+  pub arities : Arities
+  pub queues : Queues
 
-abbrev pub renamed_vis : List Vi → List Break
-renamed_vis vis = named_again (λ vi. vi.name) (λ number. break number 7 (spot_at 0 0)) 0 [] vis
+abbrev pub known_of : List Vi → Known
+known_of vis = record { arities = arities vis; queues = first_queue (all_queues vis) }
 
 -- the breaks on what the lines of one VI with these nodes name and call
 abbrev pub called_by : Arities → (number : ℕ) → List PanelItem → List Entry → List Break
@@ -30,7 +40,3 @@ structured_by queues number es =
 -- the breaks on the lines of one VI with these nodes
 abbrev pub lined_by : Known → (number : ℕ) → List PanelItem → List Entry → List Break
 lined_by known number panel es = called_by known.arities number panel es ++ structured_by known.queues number es
-
--- 9: that no VI has the main one's name is told after all VIs
-abbrev pub absent_main : Arities → (count : ℕ) → (main : List ℕ) → List Break
-absent_main known count main = if is_some (known main) then [] else break count 9 (spot_at 0 0) ∷ []

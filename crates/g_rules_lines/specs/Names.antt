@@ -9,9 +9,10 @@ use Rattle.std.specs.BTreeSet.{BTreeSet, contains, contains_by}
 use denote.Ref.{Bor}
 use Rattle.g_diagram.specs.declared.hierarchy.Vi.{Vi}
 use Rattle.g_types.specs.declared.ty.Ty.{Ty}
-use Rattle.g_rules_lines.specs.declared.arities.Arity.{Arity}
+use Rattle.g_rules_lines.specs.declared.callees.Arity.{Arity}
 use Rattle.g_rules_lines.specs.declared.queues.Queue.{Queue}
-use Rattle.g_rules_lines.specs.Lines.{Known, arity}
+use Rattle.g_rules_lines.specs.Callees.{arity}
+use Rattle.g_rules_lines.specs.Lists.{Known}
 
 abbrev pub Names : Type 0
 Names = BTreeSet (Bor (List ℕ))

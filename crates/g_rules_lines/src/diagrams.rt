@@ -3,7 +3,7 @@
 ghost use Rattle.std.specs.Prelude.{◌≡◌, ◌||◌, ◌==◌, ℕ, false, map, IfOk, OnOk};
 ghost use Rattle.std.specs.List.{list_any};
 ghost use Rattle.g_diagram_table.specs.Seen as table;
-ghost use Rattle.g_rules_lines.specs.Lines as spec;
+ghost use Rattle.g_rules_lines.specs.InPlaceBodies as spec;
 ghost use Rattle.g_rules_lines.specs.Names.{has_diagram};
 
 use g_diagram_table::{Arm, Entry, Kind, Part};
@@ -56,74 +56,34 @@ fn add_kind(diagrams: &mut Diagrams, kind: &Kind<'_>) -> Result<(), AllocError>
     ensures { OnOk result ((d : ℕ) → has_diagram diagrams.new d ≡ (has_diagram diagrams.old d || list_any (λ x. x == d) (spec.diagrams_in (table.seen_kind kind.now)))) }
 {
     match kind {
-        Kind::For { body, .. } => add_diagram(diagrams, *body),
-        Kind::While { body, .. } => add_diagram(diagrams, *body),
+        Kind::Loop { body, .. } => add_diagram(diagrams, *body),
         Kind::Case { arms, .. } => add_arms(diagrams, arms.as_slice()),
         Kind::Sequence { parts } => add_parts(diagrams, parts.as_slice()),
         Kind::InPlace { body, .. } => add_diagram(diagrams, *body),
-        Kind::Const { .. }
-        | Kind::Apply { .. }
-        | Kind::Shows { .. }
-        | Kind::Shared { .. }
-        | Kind::Obtain { .. }
-        | Kind::Read { .. }
-        | Kind::Write { .. }
-        | Kind::Call { .. } => Ok(()),
+        _ => Ok(()),
     }
 }
 
 fn is_in_place(kind: &Kind<'_>) -> bool
     ensures { result ≡ spec.is_in_place (table.seen_kind kind.now) }
 {
-    match kind {
-        Kind::InPlace { .. } => true,
-        Kind::Const { .. }
-        | Kind::Apply { .. }
-        | Kind::Shows { .. }
-        | Kind::Shared { .. }
-        | Kind::Obtain { .. }
-        | Kind::Read { .. }
-        | Kind::Write { .. }
-        | Kind::Call { .. }
-        | Kind::For { .. }
-        | Kind::While { .. }
-        | Kind::Case { .. }
-        | Kind::Sequence { .. } => false,
-    }
+    matches!(kind, Kind::InPlace { .. })
 }
 
 fn is_case(kind: &Kind<'_>) -> bool
     ensures { result ≡ spec.is_case (table.seen_kind kind.now) }
 {
-    match kind {
-        Kind::Case { .. } => true,
-        Kind::Const { .. }
-        | Kind::Apply { .. }
-        | Kind::Shows { .. }
-        | Kind::Shared { .. }
-        | Kind::Obtain { .. }
-        | Kind::Read { .. }
-        | Kind::Write { .. }
-        | Kind::Call { .. }
-        | Kind::For { .. }
-        | Kind::While { .. }
-        | Kind::Sequence { .. }
-        | Kind::InPlace { .. } => false,
-    }
+    matches!(kind, Kind::Case { .. })
 }
 
-/// Whether a node is looked into: in a body, a structure in place or a case; outside of all bodies, a
-/// structure in place.
-fn is_body(insides: &Diagrams, bodies: &Diagrams, diagram: u32, kind: &Kind<'_>) -> bool
-    ensures { result ≡ spec.is_body (has_diagram insides.now) (has_diagram bodies.now) diagram (table.seen_kind kind.now) }
+/// Whether a node is looked into: a structure in place, and in a body a case.
+fn has_body(bodies: &Diagrams, diagram: u32, kind: &Kind<'_>) -> bool
+    ensures { result ≡ spec.has_body (has_diagram bodies.now) diagram (table.seen_kind kind.now) }
 {
-    if is_one(bodies, diagram) {
-        return is_in_place(kind) || is_case(kind);
+    if is_in_place(kind) {
+        return true;
     }
-    if is_one(insides, diagram) {
-        return false;
-    }
-    is_in_place(kind)
+    is_one(bodies, diagram) && is_case(kind)
 }
 
 fn is_inside(diagrams: &Diagrams, diagram: u32, kind: &Kind<'_>) -> bool
@@ -144,30 +104,25 @@ fn add_if(looks: bool, diagrams: &mut Diagrams, kind: &Kind<'_>) -> Result<(), A
     add_kind(diagrams, kind)
 }
 
-/// All diagrams that stand somewhere inside a body in place, and that body.
-pub fn insides(alloc: Global, entries: &[Entry<'_>]) -> Result<Diagrams, AllocError>
-    ensures { IfOk result (λ diagrams. (d : ℕ) → has_diagram diagrams d ≡ spec.insides spec.no_diagrams (map table.seen entries.now) d) }
+/// The bodies in place, wherever they stand, and the branches of cases in them.
+pub fn bodies(alloc: Global, entries: &[Entry<'_>]) -> Result<Diagrams, AllocError>
+    ensures { IfOk result (λ diagrams. (d : ℕ) → has_diagram diagrams d ≡ spec.bodies (map table.seen entries.now) d) }
 {
     let mut diagrams = no_diagrams(alloc);
     for entry in entries {
-        let looks = is_inside(&diagrams, entry.diagram, &entry.kind);
+        let looks = has_body(&diagrams, entry.diagram, &entry.kind);
         add_if(looks, &mut diagrams, &entry.kind)?;
     }
     Ok(diagrams)
 }
 
-/// The bodies in place and the branches of cases in them that are looked into, where `insides` has all
-/// diagrams inside bodies in place.
-pub fn bodies(
-    alloc: Global,
-    insides: &Diagrams,
-    entries: &[Entry<'_>],
-) -> Result<Diagrams, AllocError>
-    ensures { IfOk result (λ diagrams. (d : ℕ) → has_diagram diagrams d ≡ spec.bodies (has_diagram insides.now) spec.no_diagrams (map table.seen entries.now) d) }
+/// All diagrams that stand somewhere inside a body in place, and that body.
+pub fn insides(alloc: Global, entries: &[Entry<'_>]) -> Result<Diagrams, AllocError>
+    ensures { IfOk result (λ diagrams. (d : ℕ) → has_diagram diagrams d ≡ spec.insides (map table.seen entries.now) d) }
 {
     let mut diagrams = no_diagrams(alloc);
     for entry in entries {
-        let looks = is_body(insides, &diagrams, entry.diagram, &entry.kind);
+        let looks = is_inside(&diagrams, entry.diagram, &entry.kind);
         add_if(looks, &mut diagrams, &entry.kind)?;
     }
     Ok(diagrams)

@@ -2,21 +2,22 @@
 //! queues, the values of a case, the results of its branches, bodies in place, and counts of loops.
 #![tactic(auto)]
 
-pub mod arities;
-mod countless;
-mod counts;
+mod arity;
+pub mod callees;
+mod case_results;
+mod case_values;
 mod diagrams;
-mod in_place;
+mod in_place_bodies;
 mod lines;
+mod loop_counts;
 mod names;
-mod objects;
+mod panel_objects;
 mod place;
 pub mod queues;
-mod repeats;
-mod reselects;
-mod results;
+mod repeated_names;
+mod unknown_vis;
 
-pub use counts::push_absent;
 pub use lines::push_lined;
 pub use place::next;
-pub use repeats::push_vi_repeats;
+pub use repeated_names::push_vi_repeats;
+pub use unknown_vis::push_absent;

@@ -1,8 +1,7 @@
 //! Breaks that are found.
 
 ghost use Rattle.std.specs.Prelude.{◌≡◌, ◌++◌, ◌+◌, ◌∷◌, [], IfOk, OnOk};
-ghost use Rattle.g_rules_lines.specs.Spots.{break};
-ghost use Rattle.g_rules_lines.specs.Lines.{spot_at};
+ghost use Rattle.g_rules_lines.specs.Spots.{break, spot_at};
 
 use g_diagram::{Break, Place};
 use std::alloc::AllocError;

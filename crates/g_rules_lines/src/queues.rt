@@ -6,7 +6,7 @@ ghost use Rattle.g_diagram.specs.Lines.{entries_of};
 ghost use Rattle.g_types.specs.Same.{same_type};
 ghost use Rattle.g_diagram_table.specs.Seen as table;
 ghost use Rattle.g_rules_lines.specs.Spots.{break};
-ghost use Rattle.g_rules_lines.specs.Lines as spec;
+ghost use Rattle.g_rules_lines.specs.Queues as spec;
 ghost use Rattle.g_rules_lines.specs.Names.{queue_at, queue_after, seen_queue};
 
 use crate::place::push_at;
@@ -54,18 +54,7 @@ fn add_kind<'a>(known: &mut Queues<'a>, kind: &Kind<'a>) -> Result<(), AllocErro
             };
             add_queue(known, *queue, first)
         }
-        Kind::Const { .. }
-        | Kind::Apply { .. }
-        | Kind::Shows { .. }
-        | Kind::Shared { .. }
-        | Kind::Read { .. }
-        | Kind::Write { .. }
-        | Kind::Call { .. }
-        | Kind::For { .. }
-        | Kind::While { .. }
-        | Kind::Case { .. }
-        | Kind::Sequence { .. }
-        | Kind::InPlace { .. } => Ok(()),
+        _ => Ok(()),
     }
 }
 
@@ -131,18 +120,7 @@ fn is_unequal(known: &Queues<'_>, kind: &Kind<'_>) -> bool
             item,
             ..
         } => differs(queue_of(known, *queue), *size, *item),
-        Kind::Const { .. }
-        | Kind::Apply { .. }
-        | Kind::Shows { .. }
-        | Kind::Shared { .. }
-        | Kind::Read { .. }
-        | Kind::Write { .. }
-        | Kind::Call { .. }
-        | Kind::For { .. }
-        | Kind::While { .. }
-        | Kind::Case { .. }
-        | Kind::Sequence { .. }
-        | Kind::InPlace { .. } => false,
+        _ => false,
     }
 }
 

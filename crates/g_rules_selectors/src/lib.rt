@@ -3,7 +3,5 @@
 
 mod intervals;
 mod taken;
-#[cfg(test)]
-mod tests;
 
 pub use taken::{Taken, nothing_taken, take};

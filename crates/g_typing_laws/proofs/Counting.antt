@@ -7,8 +7,8 @@ use Rattle.g_diagram.specs.declared.node.Tunnel.TheVariants as line
 use Rattle.g_diagram.specs.declared.panel.PanelItem.{PanelItem}
 use Rattle.g_diagram.specs.declared.panel.PanelItem.TheVariants.{Control, Indicator}
 use Rattle.g_diagram.specs.declared.hierarchy.Vi.{Vi}
-use Rattle.g_diagram.specs.Lines.{Wire, Arm, Part, Entry, Kind, Const, Apply, Shows, Shared, Obtain, Read, Write, Call, For, While, Case, Sequence, InPlace, entries_of}
-use Rattle.g_diagram.specs.Operands.{Outside, Operand, Line, Freedom, source, consumer, border, case_border, plain_line, border_lines, parts_lines, give_line, call_inputs, kind_lines, entries_lines, control_lines}
+use Rattle.g_diagram.specs.Lines.{Wire, Arm, Part, Entry, Kind, Const, Apply, Shows, Shared, Obtain, Read, Write, Call, Loop, Case, Sequence, InPlace, entries_of}
+use Rattle.g_diagram.specs.Operands.{Outside, Operand, Line, Freedom, source, consumer, border, case_border, plain_line, header_line, border_lines, parts_lines, give_line, call_inputs, loop_header, kind_lines, entries_lines, control_lines}
 use Rattle.g_diagram.specs.Ports.{ports_in, ports_of, freedom}
 use Rattle.g_typing.specs.Types.{Types}
 use Rattle.g_typing.specs.Rows.{has_rows}
@@ -216,9 +216,17 @@ module _ (d : ℕ) (n : List ℕ) where
       let s : operands_count d n l (ops ++ map (source Outside) ws) ≡ operands_count d n l ops + operands_count d n l (map (source Outside) ws) = operands_both d n l ops (map (source Outside) ws) in
       omega (arith, x, y, s)
 
+  -- of the first line of a loop the iteration alone is a source
+  header_is : (e : Entry) (b : ℕ) (ops : List Operand) (c stop : Option Wire) (iteration : Wire)
+      → operands_count d n (header_line e b ops) (loop_header c stop iteration) ≡ wire_hit d n b iteration
+  header_is e b ops None None iteration = omega arith
+  header_is e b ops None (Some s) iteration = omega arith
+  header_is e b ops (Some w) None iteration = omega arith
+  header_is e b ops (Some w) (Some s) iteration = omega arith
+
   loop_holds : (M : Types) (ok : Bool) (e : Entry) (b : ℕ) (iteration : Wire) (t : Option Ty) (ts : List Tunnel)
       → count (given b iteration t ++ (lines_inside M e.diagram b None ts ++ lines_outside M ok e.diagram b ts))
-      ≤ (0 + ((wire_hit d n b iteration + 0) + 0)) + sources_of (border_lines e (b ∷ []) [] border (e.line + 1) ts)
+      ≤ wire_hit d n b iteration + sources_of (border_lines e (b ∷ []) [] border (e.line + 1) ts)
   loop_holds M ok e b iteration t ts =
       let ins : List Given = lines_inside M e.diagram b None ts in
       let outs : List Given = lines_outside M ok e.diagram b ts in
@@ -238,8 +246,12 @@ module _ (d : ℕ) (n : List ℕ) where
   kind_holds free called objects M ok e (Read object out) = one_given e out _
   kind_holds free called objects M ok e (Write object input) = omega arith
   kind_holds free called objects M ok e (Call name inputs outputs) = each_given e (call_inputs (free name) 0 inputs) outputs _
-  kind_holds free called objects M ok e (For c iteration ts body) = loop_holds M ok e body iteration _ ts
-  kind_holds free called objects M ok e (While stop iteration ts body) = loop_holds M ok e body iteration _ ts
+  kind_holds free called objects M ok e (Loop c stop iteration ts body) =
+      let x : operands_count d n (header_line e body (loop_header c stop iteration)) (loop_header c stop iteration) ≡ wire_hit d n body iteration =
+      header_is e body (loop_header c stop iteration) c stop iteration in
+      let h : count (kind_given called objects M ok e.diagram (Loop c stop iteration ts body)) ≤ wire_hit d n body iteration + sources_of (border_lines e (body ∷ []) [] border (e.line + 1) ts) =
+      loop_holds M ok e body iteration _ ts in
+      omega (arith, x, h)
   kind_holds free called objects M ok e (Case selector ts arms) =
       let ls : List Line = border_lines e (map (λ a. a.body) arms) [] case_border (e.line + 1) ts in
       let x : count (arms_inside M e.diagram ts arms ++ results_given M e.diagram 0 arms ts) ≡ count (arms_inside M e.diagram ts arms) + count (results_given M e.diagram 0 arms ts) =

@@ -13,9 +13,9 @@ use Rattle.g_diagram.specs.declared.node.Node.TheFolds.{ind-Node, map-Node, map-
 use Rattle.g_diagram.specs.declared.panel.PanelItem.{PanelItem}
 use Rattle.g_diagram.specs.declared.panel.PanelItem.TheVariants.{Control, Indicator}
 use Rattle.g_diagram.specs.declared.hierarchy.Vi.{Vi}
-use Rattle.g_diagram.specs.Lines.{Wire, Lines, BranchLines, FrameLines, Arm, Entry, Kind, entry, one_line, loop_lines, in_order, count_of, entries_in, give_lines, branch_count, branches_count, branches_entries, arms, frame_count, frames_count, frames_entries, parts, lines_of, nodes_entries, panel_entries, entries_of, For, While, Case, Sequence, InPlace}
+use Rattle.g_diagram.specs.Lines.{Wire, Lines, BranchLines, FrameLines, Arm, Entry, Kind, entry, one_line, loop_lines, in_order, count_of, entries_in, give_lines, branch_count, branches_count, branches_entries, arms, frame_count, frames_count, frames_entries, parts, lines_of, nodes_entries, panel_entries, entries_of, Case, Sequence, InPlace}
 use Rattle.g_diagram.specs.Lines as kind
-use Rattle.g_diagram.specs.Operands.{Outside, Inside, Operand, Line, Freedom, source, consumer, free_consumer, border, case_border, plain_line, header_line, border_lines, parts_lines, give_line, call_inputs, in_and_out, kind_lines, entries_lines, control_line, control_lines}
+use Rattle.g_diagram.specs.Operands.{Outside, Inside, Operand, Line, Freedom, source, consumer, free_consumer, border, case_border, plain_line, header_line, border_lines, parts_lines, give_line, call_inputs, in_and_out, loop_header, kind_lines, entries_lines, control_line, control_lines}
 use Rattle.g_diagram.specs.Ports.{port, ports_from, ports_of, freedom}
 use Rattle.g_diagram.proofs.LineLemmas.{diagram_lines, branch_lines, frame_lines, case_lines, sequence_lines}
 use Rattle.g_diagram.proofs.LineLemmas as by
@@ -294,12 +294,12 @@ module _ (free : Freedom) (k d : ℕ) where
       (one_good (kind.Call vi inputs outputs) (call_inputs (free vi) 0 inputs ++ map (source Outside) outputs) (λ e. refl))
   level (Node-F.For count iteration ts body) =
       rolled _ (node.For count iteration ts body.0) _ (node.rolls-For count iteration ts body.0) (by.lines-For count iteration ts body.0)
-      (loop_good ts (diagram_lines body.0) (λ first finish. kind.For count iteration ts first)
-      (λ line z b f. header_spans (entry line z (kind.For count iteration ts b)) b (free_consumer Outside count ∷ source Inside iteration ∷ []) ts) body.1)
+      (loop_good ts (diagram_lines body.0) (λ first finish. kind.Loop (Some count) None iteration ts first)
+      (λ line z b f. header_spans (entry line z (kind.Loop (Some count) None iteration ts b)) b (loop_header (Some count) None iteration) ts) body.1)
   level (Node-F.While stop iteration ts body) =
       rolled _ (node.While stop iteration ts body.0) _ (node.rolls-While stop iteration ts body.0) (by.lines-While stop iteration ts body.0)
-      (loop_good ts (diagram_lines body.0) (λ first finish. kind.While stop iteration ts first)
-      (λ line z b f. header_spans (entry line z (kind.While stop iteration ts b)) b (consumer Inside stop ∷ source Inside iteration ∷ []) ts) body.1)
+      (loop_good ts (diagram_lines body.0) (λ first finish. kind.Loop None (Some stop) iteration ts first)
+      (λ line z b f. header_spans (entry line z (kind.Loop None (Some stop) iteration ts b)) b (loop_header None (Some stop) iteration) ts) body.1)
   level (Node-F.Case selector ts branches) =
       let bs : List Branch = map (λ (p : Branch'). p.0) branches in
       rolled _ (node.Case selector ts bs) _ (node.rolls-Case selector ts bs) (by.lines-Case selector ts bs) (case_good selector ts (map branch_lines bs) (all_branches branches))

@@ -11,9 +11,14 @@ use Rattle.g_diagram.specs.Leads.{Leads}
 use Rattle.g_diagram.specs.Lines.{entries_of}
 use Rattle.g_diagram.specs.Ports.{Port, ports_of, sources, is_wired, is_before, are_joined, has_wire}
 use Rattle.g_rules_lines.specs.Spots.{Spot, break}
-use Rattle.g_rules_lines.specs.Lines.{Known, known_of}
-use Rattle.g_rules_lines.specs.Lists.{lined_by, renamed_vis, absent_main}
-use Rattle.g_wires.specs.Wiring.{spot, is_repeated, repeated, unsourced, unused, unwired}
+use Rattle.g_rules_lines.specs.Lists.{Known, known_of, lined_by}
+use Rattle.g_rules_lines.specs.RepeatedNames.{renamed_vis}
+use Rattle.g_rules_lines.specs.UnknownVis.{absent_main}
+use Rattle.g_wires.specs.MissingSources.{unsourced}
+use Rattle.g_wires.specs.SecondSources.{is_repeated, repeated}
+use Rattle.g_wires.specs.Spots.{spot}
+use Rattle.g_wires.specs.UnusedSources.{unused}
+use Rattle.g_wires.specs.Unwired.{unwired}
 use Rattle.g_rules_breaks.specs.Breaks.{break_cmp, has_break}
 use Rattle.g_wires.specs.Breaks.{named_in, plain_in, each_from, plain_breaks, IsWiring}
 use Rattle.g_wires.proofs.Found.{or_left, or_right, and_both, any_filter}

@@ -14,8 +14,9 @@ use Rattle.g_wires.specs.declared.coded.Coded.{Coded}
 use Rattle.g_wires.specs.Coding.{Table, IsBelow, number_at, number_of, code_by, has_wire_of, Numbers}
 use Rattle.g_diagram.specs.declared.place.Break.{Break}
 use Rattle.g_wires.specs.Breaks.{named_in, plain_in}
-use Rattle.g_rules_lines.specs.Lists.{lined_by}
-use Rattle.g_rules_lines.specs.Lines.{Known, Queues, known_of, arities, first_queue, all_queues}
+use Rattle.g_rules_lines.specs.Lists.{lined_by, Known, known_of}
+use Rattle.g_rules_lines.specs.Callees.{arities}
+use Rattle.g_rules_lines.specs.Queues.{Queues, first_queue, all_queues}
 use Rattle.g_rules_lines.specs.Names as names
 use Rattle.g_rules_lines.specs.Names.{arity_in, queue_at, known_by}
 use Rattle.g_diagram.specs.declared.panel.PanelItem.{PanelItem}

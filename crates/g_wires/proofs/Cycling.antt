@@ -11,12 +11,13 @@ use Rattle.g_diagram.specs.declared.hierarchy.Vi.{Vi}
 use Rattle.g_diagram.specs.Ports.{Port, has_wire}
 use Rattle.g_diagram.specs.Leads.{Leads}
 use Rattle.g_wires.specs.declared.coded.Coded.{Coded}
-use Rattle.g_wires.specs.Wiring.{LeadsToItself}
+use Rattle.g_wires.specs.Cycles.{LeadsToItself}
 use Rattle.g_rules_breaks.specs.Breaks.{break_cmp, has_break, ListsEach}
 use Rattle.g_rules_breaks.proofs.Ordered.{same_break, same_itself, of_parts}
-use Rattle.g_wires.specs.Breaks.{Cycles, BreaksBy, plain_breaks, each_from}
-use Rattle.g_rules_lines.specs.Lists.{absent_main}
-use Rattle.g_rules_lines.specs.Lines.{Known}
+use Rattle.g_wires.specs.Breaks.{BreaksBy, plain_breaks, each_from}
+use Rattle.g_wires.specs.Cycles.{Cycles}
+use Rattle.g_rules_lines.specs.UnknownVis.{absent_main}
+use Rattle.g_rules_lines.specs.Lists.{Known}
 use Rattle.g_wires.specs.Marks.{line_break, marked_from, coded_wire}
 use Rattle.g_wires.specs.Checked.{TellsLines, IsCycle, AddsCycles, CyclesBelow}
 use Rattle.g_wires.proofs.Found.{or_left, or_right, or_cases}

@@ -14,11 +14,13 @@ use Rattle.g_diagram.specs.Lines.{Wire, Entry}
 use Rattle.g_diagram.specs.Operands.{control_lines, entries_lines}
 use Rattle.g_diagram.specs.Ports.{Port, ports_in, ports_of, freedom, has_wire}
 use Rattle.g_diagram.proofs.Trees.{Sketch, vi_of, same_entries, Trees, none, also, Apply, Call, Case, when, end}
-use Rattle.g_wires.specs.Wiring.{LeadsToItself}
+use Rattle.g_wires.specs.Cycles.{LeadsToItself}
 use Rattle.g_rules_lines.specs.Spots.{break}
 use Rattle.g_wires.specs.Breaks.{named_in, plain_breaks}
-use Rattle.g_rules_lines.specs.Lists.{lined_by, renamed_vis}
-use Rattle.g_rules_lines.specs.Lines.{known_of, arities, first_queue, queues_in}
+use Rattle.g_rules_lines.specs.Lists.{lined_by, known_of}
+use Rattle.g_rules_lines.specs.RepeatedNames.{renamed_vis}
+use Rattle.g_rules_lines.specs.Callees.{arities}
+use Rattle.g_rules_lines.specs.Queues.{first_queue, queues_in}
 
 abbrev w : List ℕ → Wire
 w name = Some name

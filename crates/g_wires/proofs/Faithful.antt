@@ -12,7 +12,11 @@ use Rattle.g_diagram.specs.Ports.{are_joined, is_before, same_wire, is_wired, so
 use Rattle.g_diagram_ports.specs.declared.port.Port.{Port}
 use Rattle.g_diagram_ports.specs.Seen.{seen, seen_wire}
 use Rattle.g_wires.specs.declared.coded.Coded.{Coded}
-use Rattle.g_wires.specs.Wiring.{lacks_source, is_repeated, lacks_consumer, is_missing, unsourced, repeated, unused, spot}
+use Rattle.g_wires.specs.MissingSources.{lacks_source, unsourced}
+use Rattle.g_wires.specs.SecondSources.{is_repeated, repeated}
+use Rattle.g_wires.specs.Spots.{spot}
+use Rattle.g_wires.specs.UnusedSources.{lacks_consumer, unused}
+use Rattle.g_wires.specs.Unwired.{is_missing}
 use Rattle.g_rules_lines.specs.Spots.{break}
 use Rattle.g_wires.specs.Breaks.{named_in}
 use Rattle.g_wires.specs.Coding.{Table, number_at, number_of, wire_at, code_by, is_numbered, has_wire_of, Numbers}

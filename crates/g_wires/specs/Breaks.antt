@@ -1,5 +1,5 @@
 -- What is broken in a hierarchy, and the list of it.
-use Rattle.std.specs.Prelude.{ℕ, ◌≡◌, ◌⊎◌, ◌+◌, IsTrue, List, [], ◌∷◌, ◌++◌, map, length, Some, slice_get}
+use Rattle.std.specs.Prelude.{ℕ, ◌⊎◌, ◌+◌, IsTrue, List, [], ◌∷◌, ◌++◌, map, length}
 use Rattle.g_diagram.specs.declared.place.Break.{Break}
 use Rattle.g_diagram.specs.declared.hierarchy.Vi.{Vi}
 use Rattle.g_diagram.specs.declared.hierarchy.Hierarchy.{Hierarchy}
@@ -7,9 +7,14 @@ use Rattle.g_diagram.specs.Lines.{entries_of}
 use Rattle.g_diagram.specs.Ports.{Port, ports_of}
 use Rattle.g_rules_breaks.specs.Breaks.{has_break, ListsEach}
 use Rattle.g_rules_lines.specs.Spots.{break}
-use Rattle.g_rules_lines.specs.Lines.{Known, known_of}
-use Rattle.g_rules_lines.specs.Lists.{lined_by, renamed_vis, absent_main}
-use Rattle.g_wires.specs.Wiring.{unsourced, repeated, unused, unwired, LeadsToItself}
+use Rattle.g_rules_lines.specs.Lists.{Known, known_of, lined_by}
+use Rattle.g_rules_lines.specs.RepeatedNames.{renamed_vis}
+use Rattle.g_rules_lines.specs.UnknownVis.{absent_main}
+use Rattle.g_wires.specs.MissingSources.{unsourced}
+use Rattle.g_wires.specs.SecondSources.{repeated}
+use Rattle.g_wires.specs.UnusedSources.{unused}
+use Rattle.g_wires.specs.Unwired.{unwired}
+use Rattle.g_wires.specs.Cycles.{Cycles}
 
 -- the breaks on names of one VI with these ports
 abbrev pub named_in : List Port → (number : ℕ) → List Break
@@ -28,14 +33,6 @@ each_from f number (vi ∷ more) = f number vi ++ each_from f (number + 1) more
 -- the breaks of all VIs, but for those of rule 6
 abbrev pub plain_breaks : (ports : Vi → List Port) → Known → List Vi → List Break
 plain_breaks ports known vis = each_from (plain_in ports known) 0 vis ++ renamed_vis vis
-
--- a break of rule 6: the line itself
-pub record Cycles (ports : Vi → List Port) (vis : List Vi) (b : Break) : Type 0 where
-  pub vi : Vi
-  pub stands : slice_get vis b.place.vi ≡ Some vi
-  pub leads : LeadsToItself (ports vi) b.place.line
-  pub whole : b.place.operand ≡ 0
-  pub rule : b.rule ≡ 6
 
 -- what is broken, where VIs have these ports and this is known of the listing
 abbrev pub BreaksBy : (ports : Vi → List Port) → Known → List Vi → (main : List ℕ) → Break → Type 0

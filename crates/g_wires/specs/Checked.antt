@@ -7,9 +7,10 @@ use Rattle.g_diagram.specs.Operands.{Freedom, control_lines, entries_lines}
 use Rattle.g_diagram.specs.Ports.{Port, ports_in, has_wire}
 use Rattle.g_diagram.specs.Leads.{Leads}
 use Rattle.g_wires.specs.declared.coded.Coded.{Coded}
-use Rattle.g_wires.specs.Wiring.{LeadsToItself}
+use Rattle.g_wires.specs.Cycles.{LeadsToItself}
 use Rattle.g_rules_breaks.specs.Breaks.{has_break}
-use Rattle.g_wires.specs.Breaks.{named_in, Cycles}
+use Rattle.g_wires.specs.Breaks.{named_in}
+use Rattle.g_wires.specs.Cycles.{Cycles}
 use Rattle.g_wires.specs.Marks.{WireBelow, is_marked, coded_named, coded_wire}
 
 -- the ports of a VI where these inputs of calls are free

@@ -1,4 +1,9 @@
-pub mod Wiring
+pub mod Spots
+pub mod MissingSources
+pub mod SecondSources
+pub mod UnusedSources
+pub mod Unwired
+pub mod Cycles
 pub mod Breaks
 pub mod Coding
 pub mod Marks

@@ -3,7 +3,7 @@ use Rattle.std.specs.Prelude.{ℕ, ◌+◌, ◌==◌, nat_lt, Bool, true, false,
 use Rattle.std.specs.List.{list_any}
 use Rattle.g_diagram.specs.declared.place.Break.{Break}
 use Rattle.g_wires.specs.declared.coded.Coded.{Coded}
-use Rattle.g_wires.specs.declared.firsts.First.{First}
+use Rattle.g_wires.specs.declared.second_sources.First.{First}
 use Rattle.g_wires.specs.Coding.{IsBelow}
 
 abbrev pub is_number : Option ℕ → ℕ → Bool

@@ -9,8 +9,8 @@ ghost use Rattle.g_wires.specs.Checked.{ports_with, IsCoding, AddsCycles, Cycles
 ghost use Rattle.g_rules_lines.specs.Names.{known_by};
 
 use crate::coded::{Coded, code_all, wire_numbers};
+use crate::cycles::{push_marked, turning_lines};
 use crate::named::push_named;
-use crate::turns::{push_marked, turning_lines};
 use g_diagram::{Break, Hierarchy, Vi};
 use g_diagram_ports::ports::ports_of;
 use g_diagram_ports::{Callees, callees};
@@ -18,7 +18,7 @@ use g_diagram_table::Entry;
 use g_diagram_table::table::table;
 use g_lists::List;
 use g_rules_breaks::listed;
-use g_rules_lines::arities::{Arities, arities};
+use g_rules_lines::callees::{Arities, arities};
 use g_rules_lines::queues::{Queues, queues};
 use g_rules_lines::{next, push_absent, push_lined, push_vi_repeats};
 use g_types::Name;
@@ -135,9 +135,10 @@ fn check_vis(alloc: Global, known: &Known<'_>, vis: &[Vi]) -> Result<Findings, A
 ///     included, or with a range that falls;
 /// 11. each unwired operand of a `give` for a result without default, and each result that is wired in
 ///     no branch;
-/// 12. in a body in place, or a case in it, each node other than `const`, a primitive, a case or a
-///     structure in place, and nothing that stands in such a node; each `ref` line after the first of its
-///     structure; and each `ref` line of a structure anywhere inside another body in place;
+/// 12. in each body in place, wherever it stands, and in the cases in it, each node other than `const`, a
+///     primitive, a case or a structure in place, and nothing that stands in such a node but for what
+///     breaks the rule in a body in place of its own; each `ref` line after the first of its structure;
+///     and each `ref` line of a structure anywhere inside another body in place;
 /// 13. the count of each `for` that is unwired where there is no `index` line;
 /// 14. each `obtain` that differs in size or type from the first with its name.
 ///

@@ -1,9 +1,11 @@
 //! Ports whose wires are numbers.
 
-ghost use Rattle.std.specs.Prelude.{◌≡◌, map, IfOk, OnOk, All};
+ghost use Rattle.std.specs.Prelude.{◌≡◌, ◌++◌, ◌∷◌, [], map, IfOk, OnOk, All};
 ghost use Rattle.g_diagram_ports.specs.declared.port.Port.{Port as ThePort};
 ghost use Rattle.g_wires.specs.Coding.{wire_at, code_by, has_wire_of, Numbers};
+ghost use Rattle.g_wires.specs.Marks.{coded_break};
 
+use g_diagram::{Break, Place};
 use g_diagram_ports::Port;
 use std::alloc::{AllocError, Global};
 use std::collections::BTreeMap;
@@ -87,4 +89,24 @@ pub fn code_all<'a>(
         all.push(code(numbers, port))?;
     }
     Ok(all)
+}
+
+/// Adds a break at a port.
+pub fn push_break(
+    vi: u32,
+    rule: u8,
+    port: &Coded,
+    breaks: &mut Vec<Break>,
+) -> Result<(), AllocError>
+    ensures { OnOk result (breaks.new.items ≡ breaks.old.items ++ coded_break vi rule port.now ∷ []) }
+{
+    breaks.push(Break {
+        place: Place {
+            vi,
+            line: port.line,
+            operand: port.operand,
+        },
+        rule,
+    })?;
+    Ok(())
 }

@@ -3,12 +3,13 @@
 
 mod check;
 mod coded;
+mod cycles;
 mod edges;
-mod firsts;
 mod marks;
+mod missing_sources;
 mod named;
-#[cfg(test)]
-mod tests;
-mod turns;
+mod second_sources;
+mod unused_sources;
+mod unwired;
 
 pub use check::{BreakList, wiring};

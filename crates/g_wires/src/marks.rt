@@ -1,61 +1,7 @@
-//! Rules 1 and 3 over ports whose wires are numbers: consumers without a source, and sources without a
-//! consumer.
+//! Marks of wires, by their numbers.
 
-ghost use Rattle.std.specs.Prelude.{◌≡◌, ◌<◌, ◌++◌, ◌∷◌, [], ◌||◌, ℕ, length, IfOk, OnOk, All};
-ghost use Rattle.std.specs.List.{list_any};
-ghost use Rattle.g_wires.specs.Marks.{gives, takes, is_marked, is_unmarked, lacks_mark, lacks_taker, has_no_source, has_no_consumer, coded_break, coded_breaks, WireBelow};
-
-use crate::coded::Coded;
-use g_diagram::{Break, Place};
-use std::alloc::{AllocError, Global};
-
-fn mark_source(marks: &mut [bool], port: &Coded)
-    requires { WireBelow (length marks.old) port.now }
-    ensures { (w : ℕ) → is_marked marks.new w ≡ (is_marked marks.old w || gives w port.now) }
-{
-    if !port.is_source {
-        return;
-    }
-    if let Some(wire) = port.wire {
-        marks[wire] = true;
-    }
-}
-
-/// Of each wire, whether it has a source.
-fn mark_sources(alloc: Global, count: usize, ports: &[Coded]) -> Result<Vec<bool>, AllocError>
-    requires { All (WireBelow count) ports.now }
-    ensures { IfOk result (λ marks. (w : ℕ) → is_marked marks.items w ≡ list_any (gives w) ports.now) }
-{
-    let mut marks = vec![in alloc; false; count]?;
-    for port in ports {
-        mark_source(marks.as_mut_slice(), port);
-    }
-    Ok(marks)
-}
-
-fn mark_consumer(marks: &mut [bool], port: &Coded)
-    requires { WireBelow (length marks.old) port.now }
-    ensures { (w : ℕ) → is_marked marks.new w ≡ (is_marked marks.old w || takes w port.now) }
-{
-    if port.is_source {
-        return;
-    }
-    if let Some(wire) = port.wire {
-        marks[wire] = true;
-    }
-}
-
-/// Of each wire, whether it has a consumer.
-fn mark_consumers(alloc: Global, count: usize, ports: &[Coded]) -> Result<Vec<bool>, AllocError>
-    requires { All (WireBelow count) ports.now }
-    ensures { IfOk result (λ marks. (w : ℕ) → is_marked marks.items w ≡ list_any (takes w) ports.now) }
-{
-    let mut marks = vec![in alloc; false; count]?;
-    for port in ports {
-        mark_consumer(marks.as_mut_slice(), port);
-    }
-    Ok(marks)
-}
+ghost use Rattle.std.specs.Prelude.{◌≡◌};
+ghost use Rattle.g_wires.specs.Marks.{is_marked, is_unmarked};
 
 fn is_marked_at(marks: &[bool], wire: usize) -> bool
     ensures { result ≡ is_marked marks.now wire }
@@ -66,116 +12,12 @@ fn is_marked_at(marks: &[bool], wire: usize) -> bool
     }
 }
 
-fn is_unmarked_at(marks: &[bool], wire: Option<usize>) -> bool
+/// Whether a wire is there that isn't marked.
+pub fn is_unmarked_at(marks: &[bool], wire: Option<usize>) -> bool
     ensures { result ≡ is_unmarked marks.now wire }
 {
     match wire {
         None => false,
         Some(wire) => !is_marked_at(marks, wire),
     }
-}
-
-fn is_unsourced(marks: &[bool], port: &Coded) -> bool
-    ensures { result ≡ lacks_mark marks.now port.now }
-{
-    if port.is_source {
-        return false;
-    }
-    is_unmarked_at(marks, port.wire)
-}
-
-fn is_unused(marks: &[bool], port: &Coded) -> bool
-    ensures { result ≡ lacks_taker marks.now port.now }
-{
-    if !port.is_source {
-        return false;
-    }
-    if port.is_free {
-        return false;
-    }
-    is_unmarked_at(marks, port.wire)
-}
-
-/// Adds a break at a port.
-pub fn push_break(
-    vi: u32,
-    rule: u8,
-    port: &Coded,
-    breaks: &mut Vec<Break>,
-) -> Result<(), AllocError>
-    ensures { OnOk result (breaks.new.items ≡ breaks.old.items ++ coded_break vi rule port.now ∷ []) }
-{
-    breaks.push(Break {
-        place: Place {
-            vi,
-            line: port.line,
-            operand: port.operand,
-        },
-        rule,
-    })?;
-    Ok(())
-}
-
-fn push_marked_sources(
-    vi: u32,
-    marks: &[bool],
-    ports: &[Coded],
-    breaks: &mut Vec<Break>,
-) -> Result<(), AllocError>
-    ensures { OnOk result (breaks.new.items ≡ breaks.old.items ++ coded_breaks vi 1 (lacks_mark marks.now) ports.now) }
-{
-    for port in ports {
-        if is_unsourced(marks, port) {
-            push_break(vi, 1, port, breaks)?;
-        }
-    }
-    Ok(())
-}
-
-fn push_marked_consumers(
-    vi: u32,
-    marks: &[bool],
-    ports: &[Coded],
-    breaks: &mut Vec<Break>,
-) -> Result<(), AllocError>
-    ensures { OnOk result (breaks.new.items ≡ breaks.old.items ++ coded_breaks vi 3 (lacks_taker marks.now) ports.now) }
-{
-    for port in ports {
-        if is_unused(marks, port) {
-            push_break(vi, 3, port, breaks)?;
-        }
-    }
-    Ok(())
-}
-
-/// Adds the breaks of rule 1: each consumer whose wire has no source.
-pub fn push_unsourced(
-    alloc: Global,
-    vi: u32,
-    count: usize,
-    ports: &[Coded],
-    breaks: &mut Vec<Break>,
-) -> Result<(), AllocError>
-    requires { All (WireBelow count) ports.now }
-    ensures { OnOk result (breaks.new.items ≡ breaks.old.items ++ coded_breaks vi 1 (has_no_source ports.now) ports.now) }
-{
-    let marks = mark_sources(alloc, count, ports)?;
-    push_marked_sources(vi, marks.as_slice(), ports, breaks)?;
-    Ok(())
-}
-
-/// Adds the breaks of rule 3: each source whose wire has no consumer, but for those of a case's tunnels.
-pub fn push_unused(
-    alloc: Global,
-    vi: u32,
-    count: usize,
-    ports: &[Coded],
-    breaks: &mut Vec<Break>,
-) -> Result<(), AllocError>
-    requires { All (WireBelow count) ports.now }
-    ensures { OnOk result (breaks.new.items ≡ breaks.old.items ++ coded_breaks vi 3 (has_no_consumer ports.now) ports.now) }
-{
-    let marks = mark_consumers(alloc, count, ports)?;
-    push_marked_consumers(vi, marks.as_slice(), ports, breaks)?;
-    Ok(())
 }

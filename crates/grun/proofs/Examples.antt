@@ -41,10 +41,14 @@ use Rattle.g_diagram.specs.Text.{text_of}
 use Rattle.g_diagram.proofs.Trees.{Sketch, same_entries, sketch_entries, vi_of}
 use Rattle.g_rules_breaks.specs.Breaks.{ListsEach, has_break}
 use Rattle.g_rules_breaks.proofs.Ordered.{has_first, none_held}
-use Rattle.g_rules_lines.specs.Lines.{arities, first_queue, known_of, queues_in}
-use Rattle.g_rules_lines.specs.Lists.{absent_main, lined_by, renamed_vis}
-use Rattle.g_wires.specs.Wiring.{LeadsToItself}
-use Rattle.g_wires.specs.Breaks.{Cycles, IsWiring, WiringBreak, named_in, plain_breaks}
+use Rattle.g_rules_lines.specs.Callees.{arities}
+use Rattle.g_rules_lines.specs.Lists.{known_of, lined_by}
+use Rattle.g_rules_lines.specs.Queues.{first_queue, queues_in}
+use Rattle.g_rules_lines.specs.RepeatedNames.{renamed_vis}
+use Rattle.g_rules_lines.specs.UnknownVis.{absent_main}
+use Rattle.g_wires.specs.Cycles.{LeadsToItself}
+use Rattle.g_wires.specs.Breaks.{IsWiring, WiringBreak, named_in, plain_breaks}
+use Rattle.g_wires.specs.Cycles.{Cycles}
 use Rattle.g_typing.specs.Types.{Types}
 use Rattle.g_typing.specs.Typing.{AreTypes, Callees, Given, HasGiven, all_given, called_panel}
 use Rattle.g_typing.specs.Breaks.{TypeBreak, breaks_with}

@@ -13,8 +13,11 @@ use Rattle.g_diagram.specs.declared.hierarchy.Vi.{Vi}
 use Rattle.g_diagram.specs.declared.hierarchy.Hierarchy.{Hierarchy}
 use Rattle.g_diagram.specs.Lines.{entries_of}
 use Rattle.g_diagram.specs.Ports.{ports_of}
-use Rattle.g_rules_lines.specs.Lines.{known_of, named_again, panel_name, miscounted}
-use Rattle.g_rules_lines.specs.Lists.{called_by, lined_by, structured_by, renamed_items, renamed_vis, absent_main}
+use Rattle.g_rules_lines.specs.Arity.{miscounted}
+use Rattle.g_rules_lines.specs.Lists.{known_of, called_by, lined_by, structured_by}
+use Rattle.g_rules_lines.specs.PanelObjects.{panel_name}
+use Rattle.g_rules_lines.specs.RepeatedNames.{named_again, renamed_items, renamed_vis}
+use Rattle.g_rules_lines.specs.UnknownVis.{absent_main}
 use Rattle.g_rules_lines.specs.Spots.{break}
 use Rattle.g_rules_breaks.specs.Breaks.{break_cmp, has_break}
 use Rattle.g_wires.specs.Breaks.{named_in, plain_in, each_from, plain_breaks, IsWiring}

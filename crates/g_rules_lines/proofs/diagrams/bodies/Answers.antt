@@ -1,17 +1,14 @@
 use Rattle.std.proofs.Common.{◌≡◌, map, refl, ap, ◌∙◌}
 use Rattle.g_diagram_table.specs.Seen as table
-use Rattle.g_rules_lines.specs.Lines as spec
+use Rattle.g_rules_lines.specs.InPlaceBodies as spec
 use Rattle.g_rules_lines.specs.Names.{has_diagram}
-use Rattle.g_rules_lines.proofs.DiagramLemmas.{diagrams_more}
+use Rattle.g_rules_lines.proofs.DiagramLemmas.{none_gathered, gathered_more}
 use Rattle.g_rules_lines.proofs.diagrams.bodies.Goals as goal
 
 pub loop-entry-init : goal.loop-entry-init
-loop-entry-init c = λ d.
-    let same : has_diagram c.no_diagrams-diagrams.result ≡ spec.no_diagrams = λ i x. c.no_diagrams-diagrams.ensures x i in
-    ap (λ (ds : spec.Diagrams). spec.bodies (has_diagram c.args.insides.now) ds (map table.seen c.args.entries.now) d) same
+loop-entry-init c = none_gathered spec.has_body (map table.seen c.args.entries.now) (has_diagram c.no_diagrams-diagrams.result) c.no_diagrams-diagrams.ensures
 
 pub loop-entry-preserved : goal.loop-entry-preserved
 loop-entry-preserved c = λ d.
-    let inside : spec.Diagrams = has_diagram c.args.insides.now in
-    diagrams_more (spec.bodies inside) (spec.is_body inside) (λ ds e es. refl) c.args.entries.now c.loop-entry.entry-index c.entry-item.result c.is_body-looks.result (has_diagram c.loop-entry.diagrams) (has_diagram c.add_if.new.diagrams)
-    c.loop-entry-test.true c.entry-item.is c.is_body-looks.ensures c.in_ok-add_if.ensures d ∙ c.loop-entry.invariant d
+    gathered_more spec.has_body c.args.entries.now c.loop-entry.entry-index c.entry-item.result c.has_body-looks.result (has_diagram c.loop-entry.diagrams) (has_diagram c.add_if.new.diagrams)
+    c.loop-entry-test.true c.entry-item.is c.has_body-looks.ensures c.in_ok-add_if.ensures d ∙ c.loop-entry.invariant d

@@ -1,8 +1,8 @@
 use Rattle.std.proofs.Common.{◌≡◌, ℕ, map, drop}
 use Rattle.g_diagram_table.specs.Seen as table
-use Rattle.g_rules_lines.specs.Lines as spec
+use Rattle.g_rules_lines.specs.InPlaceBodies as spec
 use Rattle.g_rules_lines.specs.Names.{has_diagram}
 use Rattle.g_rules_lines.proofs.diagrams.bodies.Given as goal
 
 abbrev pub invariant-loop-entry : goal.invariant-loop-entry
-invariant-loop-entry l = (d : ℕ) → spec.bodies (has_diagram l.insides) (has_diagram l.diagrams) (map table.seen (drop l.entry-index l.entries)) d ≡ spec.bodies (has_diagram l.insides) spec.no_diagrams (map table.seen l.entries) d
+invariant-loop-entry l = (d : ℕ) → spec.gathered spec.has_body (has_diagram l.diagrams) (map table.seen (drop l.entry-index l.entries)) d ≡ spec.bodies (map table.seen l.entries) d

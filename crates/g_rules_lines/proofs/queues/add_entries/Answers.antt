@@ -1,7 +1,7 @@
 use Rattle.std.proofs.Common.{List, map, refl, ◌∙◌}
 use Rattle.g_diagram_table.specs.declared.entry.Entry.{Entry}
 use Rattle.g_diagram_table.specs.Seen.{seen, seen_kind}
-use Rattle.g_rules_lines.specs.Lines.{Queue, queue_in, queues_in}
+use Rattle.g_rules_lines.specs.Queues.{Queue, queue_in, queues_in}
 use Rattle.g_rules_lines.specs.Names.{queue_at}
 use Rattle.g_rules_lines.proofs.QueueLemmas.{firsts_more}
 use Rattle.g_rules_lines.proofs.queues.add_entries.Goals as goal

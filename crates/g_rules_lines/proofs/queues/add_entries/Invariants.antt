@@ -1,7 +1,7 @@
 use Rattle.std.proofs.Common.{◌≡◌, ℕ, List, map, drop}
 use Rattle.std.specs.Option.{option_or}
 use Rattle.g_diagram_table.specs.Seen.{seen}
-use Rattle.g_rules_lines.specs.Lines.{first_queue, queues_in}
+use Rattle.g_rules_lines.specs.Queues.{first_queue, queues_in}
 use Rattle.g_rules_lines.specs.Names.{queue_at}
 use Rattle.g_rules_lines.proofs.queues.add_entries.Given as goal
 

@@ -1,7 +1,7 @@
 use Rattle.std.proofs.Common.{◌≡◌, ◌++◌, map, take}
 use Rattle.g_diagram_table.specs.Seen.{seen}
 use Rattle.g_rules_lines.specs.Spots.{break}
-use Rattle.g_rules_lines.specs.Lines.{unequal}
+use Rattle.g_rules_lines.specs.Queues.{unequal}
 use Rattle.g_rules_lines.specs.Names.{queue_at}
 use Rattle.g_rules_lines.proofs.queues.push_unequal.Given as goal
 

@@ -1,7 +1,7 @@
 use Rattle.std.proofs.Common.{List, refl, ◌∙◌}
 use Rattle.g_diagram.specs.Lines.{entries_of}
 use Rattle.g_diagram.specs.declared.hierarchy.Vi.{Vi}
-use Rattle.g_rules_lines.specs.Lines.{Queue, queues_in, all_queues}
+use Rattle.g_rules_lines.specs.Queues.{Queue, queues_in, all_queues}
 use Rattle.g_rules_lines.specs.Names.{queue_at}
 use Rattle.g_rules_lines.proofs.QueueLemmas.{firsts_more}
 use Rattle.g_rules_lines.proofs.queues.queues.Goals as goal

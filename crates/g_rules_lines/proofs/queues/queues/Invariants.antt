@@ -1,6 +1,6 @@
 use Rattle.std.proofs.Common.{◌≡◌, ℕ, List, drop}
 use Rattle.std.specs.Option.{option_or}
-use Rattle.g_rules_lines.specs.Lines.{first_queue, all_queues}
+use Rattle.g_rules_lines.specs.Queues.{first_queue, all_queues}
 use Rattle.g_rules_lines.specs.Names.{queue_at}
 use Rattle.g_rules_lines.proofs.queues.queues.Given as goal
 

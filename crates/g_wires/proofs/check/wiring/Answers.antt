@@ -5,9 +5,10 @@ use Rattle.g_diagram.specs.Ports.{Port, ports_of}
 use Rattle.g_diagram_ports.specs.Callees.{freedom_by}
 use Rattle.g_rules_breaks.specs.Breaks.{ListsEach, has_break}
 use Rattle.g_wires.specs.Breaks.{BreaksBy}
-use Rattle.g_rules_lines.specs.Lists.{renamed_vis, absent_main}
+use Rattle.g_rules_lines.specs.RepeatedNames.{renamed_vis}
+use Rattle.g_rules_lines.specs.UnknownVis.{absent_main}
 use Rattle.g_wires.specs.Checked.{ports_with}
-use Rattle.g_rules_lines.specs.Lines.{Known, known_of}
+use Rattle.g_rules_lines.specs.Lists.{Known, known_of}
 use Rattle.g_rules_lines.specs.Names.{known_by}
 use Rattle.g_wires.proofs.Cycling.{lists_each}
 use Rattle.g_wires.proofs.Codings.{ports_same, known_same}
