@@ -1,5 +1,5 @@
 -- Rules on the lines of small listings, computed: of each rule one that it breaks and one that it doesn't.
-use Rattle.std.proofs.Common.{◌≡◌, ℕ, ℤ, pos, negsuc, ◌++◌, Bool, cond, not, List, [], ◌∷◌, map, refl, ap, ◌∙◌, true, false}
+use Rattle.std.proofs.Common.{◌≡◌, ℕ, ℤ, pos, negsuc, ◌++◌, Bool, cond, not, ◌||◌, List, [], ◌∷◌, map, refl, ap, ◌∙◌, true, false}
 use Rattle.std.specs.Prelude.{Some, None, codes}
 use Rattle.g_types.specs.declared.rep.Rep.TheVariants.{I32}
 use Rattle.g_types.specs.declared.ty.Ty.TheVariants.{Num}
@@ -196,8 +196,10 @@ kept b e es = cond b (e ∷ es) es
 
 -- what is told where the test of i32 with itself gives this
 abbrev told : (same : Bool) → List Break
-told b = map (break 0 14) (map whole (kept (not b) (obtained 6 (codes "q") (pos 1)) (kept (not b) (obtained 7 (codes "p") (pos 2))
-    (obtained 8 (codes "q") (pos 2) ∷ kept (not b) (obtained 9 (codes "q") (pos 1)) []))))
+told b =
+    let differs : Bool = not b || false in
+    map (break 0 14) (map whole (kept differs (obtained 6 (codes "q") (pos 1)) (kept differs (obtained 7 (codes "p") (pos 2))
+    (obtained 8 (codes "q") (pos 2) ∷ kept differs (obtained 9 (codes "q") (pos 1)) []))))
 
 obtains_broken : broken obtains ≡ at 14 8 0 ∷ []
 obtains_broken = ap (broken_by obtains) (same_entries obtains) ∙ ap told (same_type-same (Num I32))

@@ -1,4 +1,4 @@
-use Rattle.std.proofs.Common.{◌≡◌, map, refl, ap, ◌∙◌}
+use Rattle.std.proofs.Common.{map, ◌∙◌}
 use Rattle.g_diagram_table.specs.Seen as table
 use Rattle.g_rules_lines.specs.InPlaceBodies as spec
 use Rattle.g_rules_lines.specs.Names.{has_diagram}
