@@ -7,3 +7,9 @@ mod diagrams;
 mod graphs;
 #[cfg(test)]
 mod linked;
+#[cfg(test)]
+mod listings;
+#[cfg(test)]
+mod literals;
+#[cfg(test)]
+mod rules;
