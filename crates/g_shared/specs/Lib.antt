@@ -1,6 +1,0 @@
-pub mod Outcome
-pub mod Tried
-pub mod Panels
-pub mod Queues
-pub mod Cells
-pub mod Pools
