@@ -17,7 +17,10 @@ pub(crate) enum WordsRefused {
 fn word_bytes<R: Env>(alloc: Global, rt: &R, number: usize) -> Result<Option<Vec<u8>>, AllocError> {
     let mut room = 256usize;
     for _ in 0..usize::BITS {
-        let mut bytes = vec![in alloc; 0u8; room]?;
+        let mut bytes = Vec::new(alloc);
+        if bytes.resize(room, 0u8).is_err() {
+            return Err(AllocError);
+        }
         match rt.arg(number, bytes.as_mut_slice()) {
             Ok(count) => {
                 bytes.truncate(count);
