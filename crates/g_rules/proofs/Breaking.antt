@@ -16,8 +16,7 @@ use Rattle.g_typing.specs.Breaks.{TypeBreak}
 use Rattle.g_rules_breaks.specs.Breaks.{ListsEach, break_cmp, has_break}
 use Rattle.g_rules_breaks.proofs.Ordered.{same_break, has_first}
 use Rattle.g_wires.specs.Breaks.{IsWiring}
-use Rattle.g_rules.specs.TooLarge.{main_break}
-use Rattle.g_rules.specs.Checked.{IsBreak, wires, types, recursion, too_large, IsUnbroken}
+use Rattle.g_rules.specs.Checked.{main_break, IsBreak, wires, types, recursion, too_large, IsUnbroken}
 use Rattle.g_rules.specs.Parts as parts
 use Rattle.g_rules.specs.Parts.{LinkBreak, Tells}
 use Rattle.g_rules.proofs.Callable.{refute}

@@ -9,9 +9,12 @@ use Rattle.g_hier.specs.Recursion.{IsRecursion}
 use Rattle.g_infer.specs.Answer.{IsTyped}
 use Rattle.g_rules_breaks.specs.Breaks.{ListsEach}
 use Rattle.g_wires.specs.Breaks.{IsWiring, WiringBreak}
-use Rattle.g_rules.specs.TooLarge.{main_break}
 use Rattle.g_rules.specs.declared.check.Checked.{Checked}
 use Rattle.g_rules.specs.declared.check.Checked.TheVariants.{Broken, Unbroken}
+
+-- the break of rule 20, at the line 0 of MAIN
+abbrev pub main_break : Hierarchy → (main : List ℕ) → Break
+main_break h main = record { place = record { vi = number_of h.vis main; line = 0; operand = 0 }; rule = 20 }
 
 -- What is broken: by the rules 1 to 14; where these are all kept, by those on types, by rule 19, and by rule 20.
 pub data IsBreak (h : Hierarchy) (main : List ℕ) (b : Break) : Type 0 where

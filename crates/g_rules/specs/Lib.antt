@@ -1,3 +1,2 @@
-pub mod TooLarge
 pub mod Checked
 pub mod Parts

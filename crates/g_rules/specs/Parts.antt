@@ -1,4 +1,4 @@
--- Inner: what the rules tell that are looked at where none of the rules 1 to 14 is broken.
+-- What the rules tell that are looked at where none of the rules 1 to 14 is broken.
 use Rattle.std.specs.Prelude.{ℕ, ◌≡◌, IsTrue, List}
 use Rattle.g_diagram.specs.declared.hierarchy.Hierarchy.{Hierarchy}
 use Rattle.g_diagram.specs.declared.place.Break.{Break}
@@ -6,7 +6,7 @@ use Rattle.g_hier.specs.Answer.{IsTooLarge}
 use Rattle.g_hier.specs.Outlines.{number_of, outlines_of}
 use Rattle.g_hier.specs.Recursion.{IsRecursion}
 use Rattle.g_rules_breaks.specs.Breaks.{has_break}
-use Rattle.g_rules.specs.TooLarge.{main_break}
+use Rattle.g_rules.specs.Checked.{main_break}
 
 -- a break of rule 19 or of rule 20
 pub data LinkBreak (h : Hierarchy) (main : List ℕ) (b : Break) : Type 0 where

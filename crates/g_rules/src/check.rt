@@ -1,6 +1,6 @@
 //! What is broken in a hierarchy, or the types of its wires and what its MAIN reaches.
 
-ghost use Rattle.std.specs.Prelude.{◌≡◌, ◌<◌, ◌++◌, [], length, IfOk, MatchResult};
+ghost use Rattle.std.specs.Prelude.{◌≡◌, ◌<◌, ◌∷◌, ◌++◌, [], length, IfOk, MatchResult};
 ghost use Rattle.std.specs.List.Sorted.{IsStrictlySortedBy};
 ghost use Rattle.g_diagram.specs.declared.place.Break.{Break as TheBreak};
 ghost use Rattle.g_hier.specs.Answer.{Links};
@@ -9,16 +9,16 @@ ghost use Rattle.g_infer.specs.Answer.{IsTyped};
 ghost use Rattle.g_typing.specs.Breaks.{TypeBreak};
 ghost use Rattle.g_rules_breaks.specs.Breaks.{break_cmp, has_break};
 ghost use Rattle.g_wires.specs.Breaks.{IsWiring};
-ghost use Rattle.g_rules.specs.Checked.{IsChecked};
+ghost use Rattle.g_rules.specs.Checked.{IsChecked, main_break};
 ghost use Rattle.g_rules.specs.Parts.{LinkBreak, Tells};
 
-use crate::too_large::too_large;
-use g_diagram::{Break, Hierarchy};
+use g_diagram::{Break, Hierarchy, Place};
 use g_hier::{LinkRefused, Linked, link};
 use g_infer::infer::infer;
 use g_infer::{InferRefused, Typed};
 use g_lists::List;
 use g_rules_breaks::listed;
+use g_rules_lines::next;
 use g_types::Name;
 use g_wires::{BreakList, wiring};
 use std::alloc::{AllocError, Global};
@@ -46,6 +46,33 @@ fn types_of(
         Err(InferRefused::Broken(breaks)) => Ok(Err(breaks)),
         Err(InferRefused::Memory(error)) => Err(error),
     }
+}
+
+/// The number of the first VI of MAIN's name, or how many VIs there are.
+fn main_number(h: &Hierarchy, main: &Name) -> Result<u32, AllocError>
+    ensures { IfOk result (λ number. number ≡ number_of h.now.vis main.now) }
+{
+    let mut number = 0;
+    for vi in h.vis.as_slice() {
+        if vi.name.as_slice() == main.as_slice() {
+            return Ok(number);
+        }
+        number = next(number)?;
+    }
+    Ok(number)
+}
+
+/// The break of rule 20, which is told at line 0 of MAIN.
+fn too_large(alloc: Global, h: &Hierarchy, main: &Name) -> Result<BreakList, AllocError>
+    ensures { IfOk result (λ bs. bs ≡ main_break h.now main.now ∷ []) }
+{
+    let vi = main_number(h, main)?;
+    let place = Place {
+        vi,
+        line: 0,
+        operand: 0,
+    };
+    List::from_slice(alloc, &[Break { place, rule: 20 }])
 }
 
 /// What MAIN reaches, or the breaks of the rules 19 and 20.

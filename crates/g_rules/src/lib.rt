@@ -2,4 +2,3 @@
 #![tactic(auto)]
 
 pub mod check;
-mod too_large;
