@@ -160,9 +160,9 @@ spelled-Case selector ts bs some a =
     let ls = map branch_lines bs in
     by_lines (node.Case selector ts bs) (case_lines selector ts ls) (by.lines-Case selector ts bs)
     (λ line d.
-        let start : ℕ = line + 1 + length ts in
-        All-cons IsEntrySpelled (entry line d (kind.Case selector ts (arms start ls))) (branches_entries start ls)
-        (some_arms start bs some, arms_spelled (results ts) start bs a) (branches_spelled (results ts) start bs a))
+    let start : ℕ = line + 1 + length ts in
+    All-cons IsEntrySpelled (entry line d (kind.Case selector ts (arms start ls))) (branches_entries start ls)
+    (some_arms start bs some, arms_spelled (results ts) start bs a) (branches_spelled (results ts) start bs a))
 
 pub spelled-Sequence : (fs : List SequenceFrame) → 1 ≤ length fs → All IsFrameSpelled fs → IsNodeSpelled (node.Sequence fs)
 spelled-Sequence fs some a =

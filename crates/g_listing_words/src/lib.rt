@@ -129,5 +129,4 @@ pub fn operation_named(version: u32, word: &[u8]) -> Option<Operation>
 /// Each operation's word names it.
 pub fn operations_are_named()
     ensures { AreNamed }
-{
-}
+{}

@@ -145,9 +145,10 @@ static REFUSED: [(&[u8], u32, u32); 16] = [
 ];
 
 /// Whether the canonical text of a listing is this one.
-fn prints(alloc: Global, listing: &[u8], canonical: &[u8]) -> bool
-    requires { length listing.now + 1 < 2 ^ 32 }
-{
+fn prints(alloc: Global, listing: &[u8], canonical: &[u8]) -> bool {
+    if listing.len() > 10000 {
+        return false;
+    }
     let Ok(hierarchy) = read_listing(alloc, listing) else {
         return false;
     };
@@ -158,9 +159,10 @@ fn prints(alloc: Global, listing: &[u8], canonical: &[u8]) -> bool
 }
 
 /// The place at which a listing is refused.
-fn place(alloc: Global, listing: &[u8]) -> Option<Spot>
-    requires { length listing.now + 1 < 2 ^ 32 }
-{
+fn place(alloc: Global, listing: &[u8]) -> Option<Spot> {
+    if listing.len() > 10000 {
+        return None;
+    }
     match read_listing(alloc, listing) {
         Err(ListingRefused::Syntax(spot)) => Some(spot),
         _ => None,
@@ -170,9 +172,7 @@ fn place(alloc: Global, listing: &[u8]) -> Option<Spot>
 #[test]
 fn listings_are_read_and_printed(rt: HostRuntime) -> Result<(), Fail> {
     for (listing, canonical) in &READ {
-        if listing.len() < 10000 {
-            assert!(rt; prints(rt.alloc(), listing, canonical));
-        }
+        assert!(rt; prints(rt.alloc(), listing, canonical));
     }
     Ok(())
 }
@@ -180,13 +180,11 @@ fn listings_are_read_and_printed(rt: HostRuntime) -> Result<(), Fail> {
 #[test]
 fn listings_are_refused(rt: HostRuntime) -> Result<(), Fail> {
     for (listing, line, column) in &REFUSED {
-        if listing.len() < 10000 {
-            let spot = Spot {
-                line: *line,
-                column: *column,
-            };
-            assert_eq!(rt; place(rt.alloc(), listing), Some(spot));
-        }
+        let spot = Spot {
+            line: *line,
+            column: *column,
+        };
+        assert_eq!(rt; place(rt.alloc(), listing), Some(spot));
     }
     Ok(())
 }
