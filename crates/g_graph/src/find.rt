@@ -191,7 +191,7 @@ fn find_ways(
     Ok(found)
 }
 
-/// Guesses which nodes are on cycles, and what shows it, in a time that grows with the number of steps.
+/// Guesses which nodes are on cycles, and what shows it.
 pub fn guess(alloc: Global, graph: &[Vec<usize>]) -> Result<Vec<Hint>, AllocError> {
     let mut search = Search::new(alloc, graph.len())?;
     for node in 0..graph.len() {

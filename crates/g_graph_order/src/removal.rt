@@ -133,8 +133,8 @@ fn are_zero(counts: &[usize]) -> bool
 }
 
 /// The nodes of a graph in an order in which each edge leads from an earlier to a later one: each node stands in it once. There is none
-/// exactly where some node leads to itself. The row of a node has the nodes to which its edges lead, as often as it has edges to them. The
-/// time grows with the number of nodes and edges. Only want of memory is an error.
+/// exactly where some node leads to itself. The row of a node has the nodes to which its edges lead, as often as it has edges to them.
+/// Only want of memory is an error.
 pub fn order(alloc: Global, graph: &[Vec<usize>]) -> Result<Option<Vec<usize>>, AllocError>
     requires { InRange graph.now }
     ensures found { IfOk result (λ found. IfSome found (λ nodes. IsOrder graph.now nodes.items)) }

@@ -4,7 +4,7 @@ use Rattle.g_hier.specs.declared.linked.Linked.{Linked}
 use Rattle.g_hier.specs.declared.linked.Outline.{Outline}
 use Rattle.g_rules_breaks.specs.Breaks.{ListsEach}
 use Rattle.g_hier.specs.Counts.{IsNodeCount, most_nodes, told}
-use Rattle.g_hier.specs.LinkOrder.{IsLinked, HasSpaces, has_vi}
+use Rattle.g_hier.specs.LinkOrder.{IsLinked, HasSpaces, EntersFrom, has_vi}
 use Rattle.g_hier.specs.Recursion.{IsRecursion, HasNoRecursion, Reaches}
 use Rattle.g_hier.specs.declared.linking.LinkRefused.{LinkRefused}
 use Rattle.g_hier.specs.declared.linking.LinkRefused.TheVariants.{Recursive, TooLarge, Memory}
@@ -16,7 +16,9 @@ pub record Links (os : List Outline) (main : ℕ) (l : Linked) : Type 0 where
   pub counted : IsNodeCount os main count
   pub few : count ≤ most_nodes
   pub linked : IsLinked os main l
-  -- the VIs are those that MAIN reaches
+  -- the VIs are those that calls can enter from MAIN on
+  pub entered : (v : ℕ) → IsTrue (has_vi l.order v) ↔ EntersFrom os main v
+  -- where each VI has a data space to be entered they are those that MAIN reaches
   pub reached : All (λ o. HasSpaces o.clones) os → (v : ℕ) → IsTrue (has_vi l.order v) ↔ Reaches os main v
 
 -- no VI leads back to itself, and they are too many: how many

@@ -1,5 +1,5 @@
 -- Data spaces and VIs in link order, and the system of each data space.
-use Rattle.std.specs.Prelude.{ℕ, zero, suc, ◌≡◌, ◌<◌, ◌==◌, Bool, true, false, ◌&&◌, List, [], ◌∷◌, ◌++◌, map, length, if◌then◌else◌, Option, Some, None, slice_get}
+use Rattle.std.specs.Prelude.{ℕ, zero, suc, ◌≡◌, ◌⊎◌, ◌<◌, ◌==◌, Bool, true, false, ◌&&◌, List, [], ◌∷◌, ◌++◌, map, length, if◌then◌else◌, Option, Some, None, slice_get}
 use Rattle.std.specs.List.{list_any}
 use Rattle.g_diagram.specs.declared.hierarchy.Clones.{Clones}
 use Rattle.g_diagram.specs.declared.hierarchy.Clones.TheVariants.{NonReentrant, Preallocated, Pool}
@@ -11,7 +11,8 @@ use Rattle.g_hier.specs.declared.linked.Linked.{Linked}
 use Rattle.g_hier.specs.declared.linked.Outline.{Outline}
 use Rattle.g_hier.specs.declared.linked.Placed.{Placed}
 use Rattle.g_hier.specs.declared.linked.Space.{Space}
-use Rattle.g_hier.specs.Outlines.{calls_at}
+use Rattle.g_diagram.specs.Leads.{Leads}
+use Rattle.g_hier.specs.Outlines.{calls, calls_at}
 
 -- `same` is the system of the caller
 abbrev pub system_for : (own caller : System) → System
@@ -33,6 +34,25 @@ enterable (Pool n) vi caller = pool_spaces vi 0 n
 abbrev pub HasSpaces : Clones → Type 0
 HasSpaces (Pool n) = 0 < n
 HasSpaces other = Unit {0}
+
+-- whether there is one
+abbrev pub is_enterable : Clones → Bool
+is_enterable NonReentrant = true
+is_enterable Preallocated = true
+is_enterable (Pool zero) = false
+is_enterable (Pool (suc n)) = true
+
+abbrev pub is_enterable_in : Option Outline → Bool
+is_enterable_in None = false
+is_enterable_in (Some o) = is_enterable o.clones
+
+-- whether a call line of VI u can enter a data space of VI v
+abbrev pub enters : List Outline → (u v : ℕ) → Bool
+enters os u v = calls os u v && is_enterable_in (slice_get os v)
+
+-- VI a is VI b, or calls that can enter data spaces lead from a to b
+abbrev pub EntersFrom : List Outline → (a b : ℕ) → Type 0
+EntersFrom os a b = (a ≡ b) ⊎ Leads (enters os) a b
 
 -- with their system, where the caller has a system
 abbrev pub placed_by : Option Outline → (vi : ℕ) → Caller → (system : System) → List Placed

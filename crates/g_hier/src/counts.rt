@@ -205,7 +205,7 @@ fn ready_of(alloc: Global, waiting: &[u64]) -> Result<Vec<usize>, AllocError>
 }
 
 /// How many data spaces each VI has, each number kept at 2^63. A VI is counted once all that call it are
-/// counted, so the time grows with the number of VIs and call lines. Only want of memory refuses it.
+/// counted. Only want of memory refuses it.
 pub fn count_spaces(
     alloc: Global,
     outlines: &[Outline],

@@ -106,8 +106,7 @@ pub fn can_link<'a>(alloc: Global, h: &'a Hierarchy, main: &'a Name) -> Result<b
 /// link order, with the execution system of each. It is refused where a VI reaches itself by calls, MAIN
 /// reaches it or not, with all breaks of rule 19; else where there are more than 65,536 nodes after
 /// cloning, with their number, which is rule 20; and for want of memory, as which 2^32 VIs, and 2^32 lines
-/// of one VI, are told too. The time grows with the size of the hierarchy, and, where it is linked, with
-/// that of its data spaces, of which there are at most 64 for each node after cloning.
+/// of one VI, are told too. A VI is reached by calls that can enter it: of a pool without clones none can.
 pub fn link(alloc: Global, h: &Hierarchy, main: &Name) -> Result<Linked, LinkRefused>
     requires known { AreKnown (spec.outlines_of h.now) }
     requires main { spec.number_of h.now.vis main.now < length h.now.vis }

@@ -46,9 +46,8 @@ fn marked_breaks(
     Ok(breaks)
 }
 
-/// All breaks of rule 19, in order: each call line whose VI reaches the VI that holds the line. The time
-/// grows with the number of VIs and call lines. Only want of memory refuses it, as which 2^32 VIs are told
-/// too.
+/// All breaks of rule 19, in order: each call line whose VI reaches the VI that holds the line. Only
+/// want of memory refuses it, as which 2^32 VIs are told too.
 pub fn recursions_of(alloc: Global, outlines: &[Outline]) -> Result<Vec<Break>, AllocError>
     requires { AreKnown outlines.now }
     ensures { IfOk result (λ bs. ListsEach (IsRecursion outlines.now) bs.items) }

@@ -192,8 +192,7 @@ fn start_of(alloc: Global, outlines: &[Outline], main: u32) -> Result<Vec<Placed
     Ok(pending)
 }
 
-/// The data spaces in link order with their systems. The time grows with the number of data spaces and of
-/// their call lines. Only want of memory refuses it.
+/// The data spaces in link order with their systems. Only want of memory refuses it.
 pub fn spaces_of(alloc: Global, outlines: &[Outline], main: u32) -> Result<Vec<Placed>, AllocError>
     ensures { IfOk result (λ met. AreInLinkOrder outlines.now main met.items) }
 {

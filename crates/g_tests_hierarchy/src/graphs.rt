@@ -95,7 +95,7 @@ fn small_graphs(rt: HostRuntime) -> Result<(), Fail> {
     Ok(())
 }
 
-/// With a search for each node this would take hours.
+/// With a search for each node this would take hours; no clause speaks of time.
 #[test]
 fn a_long_ring_takes_one_search(rt: HostRuntime) -> Result<(), Fail> {
     let alloc = rt.alloc();

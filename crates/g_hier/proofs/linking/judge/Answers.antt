@@ -4,8 +4,8 @@ use Rattle.g_hier.specs.Settling.{AreTold}
 use Rattle.g_hier.proofs.CallsBack.{acyclic, none_there}
 use Rattle.g_hier.proofs.Unique.{counts_only}
 use Rattle.g_hier.specs.Recursion.{Reaches}
-use Rattle.g_hier.specs.LinkOrder.{has_vi}
-use Rattle.g_hier.proofs.Reached.{reached}
+use Rattle.g_hier.specs.LinkOrder.{EntersFrom, has_vi}
+use Rattle.g_hier.proofs.Reached.{entered_vis, reached}
 use Rattle.std.specs.Prelude.{◌↔◌}
 use Rattle.g_hier.proofs.linking.judge.Goals as goal
 
@@ -48,6 +48,10 @@ returns c =
       };
       few = let low : c.node_count-nodes.result ≤ 65536 = omega arith in omega (arith, e, low);
       linked = c.in_ok-linked.ensures;
+      entered = λ v.
+          let l = c.in_ok-linked.ensures in
+          let Q : List ℕ → Type 0 = λ order. (has_vi order v ≡ true) ↔ EntersFrom c.args.outlines.now c.args.main v in
+          subst Q (sym l.order_is) (entered_vis c.args.outlines.now c.args.main c.requires.main l.met l.in_order v);
       reached = λ some v.
           let l = c.in_ok-linked.ensures in
           let Q : List ℕ → Type 0 = λ order. (has_vi order v ≡ true) ↔ Reaches c.args.outlines.now c.args.main v in
