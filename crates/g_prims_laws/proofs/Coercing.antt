@@ -163,27 +163,27 @@ wider_of a b r s e g = ap₂ wider (ap (rep_or a) e) (ap (rep_or b) g)
 
 two_numbers : (f : ℤ → ℤ → ℤ) → Keeps f → (x y : Num) (w : Rep) → number w (f x.n y.n) ≡ arithmetic f (number w x.n) (number w y.n)
 two_numbers f k x y w = sym (
-  open_both f (number w x.n) (number w y.n) (Value-F.Num (num_of w x.n)) (Value-F.Num (num_of w y.n)) (value.outs-Num (num_of w x.n)) (value.outs-Num (num_of w y.n))
-      ∙ ap (λ u. number u (f (wrap w x.n) (wrap w y.n))) (wider_itself w)
-      ∙ ap value.Num (same_wrapped w (f (wrap w x.n) (wrap w y.n)) (f x.n y.n) (k w x.n y.n)))
+    open_both f (number w x.n) (number w y.n) (Value-F.Num (num_of w x.n)) (Value-F.Num (num_of w y.n)) (value.outs-Num (num_of w x.n)) (value.outs-Num (num_of w y.n))
+    ∙ ap (λ u. number u (f (wrap w x.n) (wrap w y.n))) (wider_itself w)
+    ∙ ap value.Num (same_wrapped w (f (wrap w x.n) (wrap w y.n)) (f x.n y.n) (k w x.n y.n)))
 
 number_and_array : (f : ℤ → ℤ → ℤ) → Keeps f → (x : Num) (ys : Numbers) (w : Rep) → value.Nums (right f w x.n ys) ≡ arithmetic f (number w x.n) (value.Nums (coerced_numbers w ys))
 number_and_array f k x ys w = sym (
-  open_both f (number w x.n) (value.Nums (coerced_numbers w ys)) (Value-F.Num (num_of w x.n)) (Value-F.Nums (coerced_numbers w ys)) (value.outs-Num (num_of w x.n)) (value.outs-Nums (coerced_numbers w ys))
-      ∙ ap (λ u. value.Nums (right f u (wrap w x.n) (coerced_numbers w ys))) (wider_itself w)
-      ∙ ap (λ l. value.Nums (numbers_of w l)) (right_all f k w x.n ys.all))
+    open_both f (number w x.n) (value.Nums (coerced_numbers w ys)) (Value-F.Num (num_of w x.n)) (Value-F.Nums (coerced_numbers w ys)) (value.outs-Num (num_of w x.n)) (value.outs-Nums (coerced_numbers w ys))
+    ∙ ap (λ u. value.Nums (right f u (wrap w x.n) (coerced_numbers w ys))) (wider_itself w)
+    ∙ ap (λ l. value.Nums (numbers_of w l)) (right_all f k w x.n ys.all))
 
 array_and_number : (f : ℤ → ℤ → ℤ) → Keeps f → (xs : Numbers) (y : Num) (w : Rep) → value.Nums (left f w xs y.n) ≡ arithmetic f (value.Nums (coerced_numbers w xs)) (number w y.n)
 array_and_number f k xs y w = sym (
-  open_both f (value.Nums (coerced_numbers w xs)) (number w y.n) (Value-F.Nums (coerced_numbers w xs)) (Value-F.Num (num_of w y.n)) (value.outs-Nums (coerced_numbers w xs)) (value.outs-Num (num_of w y.n))
-      ∙ ap (λ u. value.Nums (left f u (coerced_numbers w xs) (wrap w y.n))) (wider_itself w)
-      ∙ ap (λ l. value.Nums (numbers_of w l)) (left_all f k w xs.all y.n))
+    open_both f (value.Nums (coerced_numbers w xs)) (number w y.n) (Value-F.Nums (coerced_numbers w xs)) (Value-F.Num (num_of w y.n)) (value.outs-Nums (coerced_numbers w xs)) (value.outs-Num (num_of w y.n))
+    ∙ ap (λ u. value.Nums (left f u (coerced_numbers w xs) (wrap w y.n))) (wider_itself w)
+    ∙ ap (λ l. value.Nums (numbers_of w l)) (left_all f k w xs.all y.n))
 
 two_arrays : (f : ℤ → ℤ → ℤ) → Keeps f → (xs ys : Numbers) (w : Rep) → value.Nums (numbers_of w (zip2 (combined f w) xs.all ys.all)) ≡ arithmetic f (value.Nums (coerced_numbers w xs)) (value.Nums (coerced_numbers w ys))
 two_arrays f k xs ys w = sym (
-  open_both f (value.Nums (coerced_numbers w xs)) (value.Nums (coerced_numbers w ys)) (Value-F.Nums (coerced_numbers w xs)) (Value-F.Nums (coerced_numbers w ys)) (value.outs-Nums (coerced_numbers w xs)) (value.outs-Nums (coerced_numbers w ys))
-      ∙ ap (λ u. value.Nums (numbers_of u (zip2 (combined f u) (map (wrap w) xs.all) (map (wrap w) ys.all)))) (wider_itself w)
-      ∙ ap (λ l. value.Nums (numbers_of w l)) (both_all f k w xs.all ys.all))
+    open_both f (value.Nums (coerced_numbers w xs)) (value.Nums (coerced_numbers w ys)) (Value-F.Nums (coerced_numbers w xs)) (Value-F.Nums (coerced_numbers w ys)) (value.outs-Nums (coerced_numbers w xs)) (value.outs-Nums (coerced_numbers w ys))
+    ∙ ap (λ u. value.Nums (numbers_of u (zip2 (combined f u) (map (wrap w) xs.all) (map (wrap w) ys.all)))) (wider_itself w)
+    ∙ ap (λ l. value.Nums (numbers_of w l)) (both_all f k w xs.all ys.all))
 
 at_rep : (f : ℤ → ℤ → ℤ) → Keeps f → (l m : Value-F Value) (r s : Rep) → rep_at l ≡ Some r → rep_at m ≡ Some s → arithmetic_at f l m ≡ arithmetic f (converted_at (wider r s) l) (converted_at (wider r s) m)
 at_rep f k (Value-F.Num x) (Value-F.Num y) r s e g = ap (λ u. number u (f x.n y.n)) (wider_of x.rep y.rep r s e g) ∙ two_numbers f k x y (wider r s)

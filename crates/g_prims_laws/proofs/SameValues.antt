@@ -276,7 +276,7 @@ array_tells ps w (Value-F.Arr ys) e a h =
     let elems = same_elems ps.elem ys.elem (sym (type-Arr xs) ∙ a.one_type ∙ ap type_of is ∙ type-Arr ys) in
     let plain : has_reference ps.elem ≡ false = sym (ap has_reference (type-Arr xs) ∙ reference-Arr ps.elem) ∙ a.plain in
     ap value.Arr (ap₂ array_with elems (items_tell ps.items ys.items ps.elem ((layer-of_array xs a.left).one_type) (proper_items xs a.left)
-      (subst (λ t. All (λ v. type_of v ≡ t) ys.items) (sym elems) ((layer-of_array ys right).one_type)) (proper_items ys right) plain h)) ∙ sym is
+    (subst (λ t. All (λ v. type_of v ≡ t) ys.items) (sym elems) ((layer-of_array ys right).one_type)) (proper_items ys right) plain h)) ∙ sym is
 array_tells ps w _ e a h = absurd cc
 
 cluster_tells : (ps : List Told) (w : Value) (m : Value-F Value) → out-Value w ≡ m → Alike (value.Cluster (told ps)) w → same_level (Value-F.Cluster (map same (told ps))) m ≡ true → value.Cluster (told ps) ≡ w

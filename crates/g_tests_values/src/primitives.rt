@@ -115,7 +115,12 @@ fn are_same_types(found: &[Ty], wanted: &[Ty]) -> bool {
 }
 
 /// Whether the row of the inputs gives the types and the values of these outputs.
-fn gives(alloc: Global, primitive: &Primitive, ins: &[Of], outs: &[Of]) -> Result<bool, AllocError> {
+fn gives(
+    alloc: Global,
+    primitive: &Primitive,
+    ins: &[Of],
+    outs: &[Of],
+) -> Result<bool, AllocError> {
     let ins = values(alloc, ins)?;
     let wanted = values(alloc, outs)?;
     let types = types_of(alloc, ins.as_slice())?;
@@ -124,8 +129,10 @@ fn gives(alloc: Global, primitive: &Primitive, ins: &[Of], outs: &[Of]) -> Resul
     };
     let found = apply(alloc, primitive, &ins)?;
     let given = types_of(alloc, wanted.as_slice())?;
-    Ok(are_same_types(row.as_slice(), given.as_slice())
-        && are_same(found.as_slice(), wanted.as_slice()))
+    Ok(
+        are_same_types(row.as_slice(), given.as_slice())
+            && are_same(found.as_slice(), wanted.as_slice()),
+    )
 }
 
 #[test]
@@ -134,22 +141,50 @@ fn rows_and_values(rt: HostRuntime) -> Result<(), Fail> {
     let two = Items(&[1, 2]);
     let three = Items(&[1, 2, 3]);
     for (primitive, ins, outs) in [
-        (Primitive::Add, [three, Items(&[10, 20])].as_slice(), [Items(&[11, 22])].as_slice()),
-        (Primitive::Mul, &[I32(70_000), U32(70_000)], &[U32(605_032_704)]),
+        (
+            Primitive::Add,
+            [three, Items(&[10, 20])].as_slice(),
+            [Items(&[11, 22])].as_slice(),
+        ),
+        (
+            Primitive::Mul,
+            &[I32(70_000), U32(70_000)],
+            &[U32(605_032_704)],
+        ),
         (Primitive::QuotRem, &[I32(-7), I32(2)], &[I32(-4), I32(1)]),
         (Primitive::QuotRem, &[I32(5), I32(0)], &[I32(0), I32(5)]),
         (Primitive::QuotRem, &[I8(-128), I8(-1)], &[I8(-128), I8(0)]),
-        (Primitive::MaxMin, &[I32(-1), U32(1)], &[U32(4_294_967_295), U32(1)]),
+        (
+            Primitive::MaxMin,
+            &[I32(-1), U32(1)],
+            &[U32(4_294_967_295), U32(1)],
+        ),
         (Primitive::Abs, &[I8(-128)], &[I8(-128)]),
         (Primitive::Shift, &[I8(-1), I32(-1)], &[I8(127)]),
         (Primitive::Lt, &[I32(-1), U32(1)], &[Truth(false)]),
         (Primitive::Select, &[Truth(true), I8(3), I32(4)], &[I32(3)]),
-        (Primitive::Subset, &[three, I32(1), I32(5)], &[Items(&[2, 3])]),
-        (Primitive::Delete, &[three, I32(1), I32(1)], &[Items(&[1, 3]), Items(&[2])]),
+        (
+            Primitive::Subset,
+            &[three, I32(1), I32(5)],
+            &[Items(&[2, 3])],
+        ),
+        (
+            Primitive::Delete,
+            &[three, I32(1), I32(1)],
+            &[Items(&[1, 3]), Items(&[2])],
+        ),
         (Primitive::Replace, &[two, I32(2), I32(9)], &[two]),
-        (Primitive::Sort, &[Items(&[2, -1, 2, 0])], &[Items(&[-1, 0, 2, 2])]),
+        (
+            Primitive::Sort,
+            &[Items(&[2, -1, 2, 0])],
+            &[Items(&[-1, 0, 2, 2])],
+        ),
         (Primitive::Search, &[Items(&[5, 6]), I32(6)], &[I32(1)]),
-        (Primitive::StrConcat, &[Text(b"a"), Text(b"bc")], &[Text(b"abc")]),
+        (
+            Primitive::StrConcat,
+            &[Text(b"a"), Text(b"bc")],
+            &[Text(b"abc")],
+        ),
         (Primitive::NumStr, &[I8(-7)], &[Text(b"-7")]),
     ] {
         assert!(rt; gives(rt.alloc(), &primitive, ins, outs)?);
