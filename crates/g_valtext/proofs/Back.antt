@@ -1,5 +1,5 @@
 -- What is printed spells the value.
-use Rattle.std.proofs.Common.{◌≡◌, ℕ, ◌-◌, ◌<◌, ◌≤◌, ◌^◌, Bool, true, false, List, [], ◌∷◌, ◌++◌, length, map, Option, Some, None, codes, ℤ, pos, negsuc, neg_ℤ, ◌≤ℤ◌, ◌<ℤ◌, ◌-ℤ◌, T, refl, sym, ap, ◌∙◌, arith, subst, append_assoc, get_or}
+use Rattle.std.proofs.Common.{◌≡◌, ℕ, ◌-◌, ◌≤◌, ◌^◌, Bool, true, false, List, [], ◌∷◌, ◌++◌, length, map, Option, Some, None, codes, ℤ, pos, negsuc, neg_ℤ, ◌≤ℤ◌, refl, sym, ap, ◌∙◌, arith, subst, append_assoc, get_or}
 use Rattle.std.specs.Prelude.{IsTrue, is_none, nat_le}
 use Rattle.std.specs.List.{list_all, All}
 use Rattle.std.specs.Fmt.{signed_decimal}
@@ -25,13 +25,12 @@ use Rattle.g_types.specs.declared.ty.Ty.TheOpen.{Ty-F}
 use Rattle.g_types.specs.Ty.{joined, is_num_at}
 use Rattle.g_values.specs.declared.num.Num.{Num}
 use Rattle.g_values.specs.declared.value.ArrOf.{ArrOf}
-use Rattle.g_values.specs.declared.value.RefValue.{RefValue}
 use Rattle.g_values.specs.declared.value.Live.{Live}
 use Rattle.g_values.specs.declared.value.Value.{Value}
 use Rattle.g_values.specs.declared.value.Value.TheVariants as value
 use Rattle.g_values.specs.declared.value.Value.TheOpen.{Value-F}
 use Rattle.g_values.specs.declared.value.Value.TheViews.{roll-Value}
-use Rattle.g_values.specs.declared.value.Value.TheFolds.{fold-roll-Value, ind-Value, map-Value, every_held-Value, every_here-Value}
+use Rattle.g_values.specs.declared.value.Value.TheFolds.{ind-Value, map-Value, every_held-Value, every_here-Value}
 use Rattle.g_values.specs.Number.{num_of, wrap-in_range}
 use Rattle.g_values.specs.Numbers.{Numbers as Several}
 use Rattle.g_values.specs.Proper.{IsProper, IsLayer, IsWhole, IsArr, most}
@@ -41,52 +40,20 @@ use Rattle.g_values.proofs.ProperLemmas.{whole-in_cluster}
 use Rattle.g_values.proofs.TypesOf.{type-Num, type-Bool, type-Str, type-Nums, type-Arr, type-Cluster, type-Queue, type-Cell}
 use Rattle.g_values.proofs.TextLemmas.{text-Num, text-Bool, text-Str, text-Nums, text-Arr, text-Cluster, text-Queue, text-Cell}
 use Rattle.g_valtext.specs.Forms.{Form, Number, Truth, Text, Numbers, Items, Parts, Null, form, forms_of, items_of, rep_of}
-use Rattle.g_valtext.specs.Plain.{is_byte, is_plain, plain_step}
+use Rattle.g_valtext.specs.Plain.{is_byte, is_ranged, refers_to_none}
+use Rattle.g_valtext.proofs.Ranged.{within, ranged-Str, ranged-Nums, ranged-Arr, ranged-Cluster, null-Arr, null-Cluster, null-Queue, null-Cell}
 use Rattle.g_valtext.specs.Spellings.{first_of, rest_of, of_form, values, grammars, number, number_within, is_within, parts, tokens, IsSpelling}
 use Rattle.g_valtext.proofs.Exact.{one_value}
 use Rattle.g_valtext.proofs.Pieces.{IsShort, finish, mark_piece, word_piece, number_piece, text_piece}
-use Rattle.g_valtext.proofs.Ranges.{kept, half_below}
+use Rattle.g_valtext.proofs.Ranges.{kept}
 use Rattle.g_valtext.proofs.Spoken.{Spoken, Says, AllSay, Speak, array_says, parts_say}
 use Rattle.g_valtext.proofs.Steps.{form-Num, form-Bool, form-Str, form-Arr, form-Cluster, form-QueueRef, form-ValueRef, grammars-of}
-
--- ---- plainness, by the variants
-
-plain-Str : (s : List ℕ) → is_plain (value.Str s) ≡ list_all is_byte s
-plain-Str s = ap is_plain (sym (value.rolls-Str s)) ∙ fold-roll-Value Bool plain_step (Value-F.Str s)
-
-plain-Nums : (xs : Several) → is_plain (value.Nums xs) ≡ list_all (is_within xs.rep) xs.all
-plain-Nums xs = ap is_plain (sym (value.rolls-Nums xs)) ∙ fold-roll-Value Bool plain_step (Value-F.Nums xs)
-
-plain-Arr : (xs : ArrOf Value) → is_plain (value.Arr xs) ≡ list_all (λ b. b) (map is_plain xs.items)
-plain-Arr xs = ap is_plain (sym (value.rolls-Arr xs)) ∙ fold-roll-Value Bool plain_step (Value-F.Arr xs)
-
-plain-Cluster : (vs : List Value) → is_plain (value.Cluster vs) ≡ list_all (λ b. b) (map is_plain vs)
-plain-Cluster vs = ap is_plain (sym (value.rolls-Cluster vs)) ∙ fold-roll-Value Bool plain_step (Value-F.Cluster vs)
-
-plain-Queue : (r : RefValue) → is_plain (value.Queue r) ≡ is_none r.at
-plain-Queue r = ap is_plain (sym (value.rolls-Queue r)) ∙ fold-roll-Value Bool plain_step (Value-F.Queue r)
-
-plain-Cell : (r : RefValue) → is_plain (value.Cell r) ≡ is_none r.at
-plain-Cell r = ap is_plain (sym (value.rolls-Cell r)) ∙ fold-roll-Value Bool plain_step (Value-F.Cell r)
 
 says_by : (v : Value) (f : Form) (w : List ℕ) → form (type_of v) ≡ f → text v ≡ w → Says (of_form f) w v → Says (values (type_of v)) (text v) v
 says_by v f w e t s bytes ts bound c =
     subst (λ g. Spoken (of_form g) v (text v ++ bytes) ts) (sym e) (subst (λ l. Spoken (of_form f) v (l ++ bytes) ts) (sym t) (s bytes ts bound c))
 
 -- ---- numbers
-
-t_true : (b : Bool) → T b → b ≡ true
-t_true true h = refl
-t_true false h = absurd h
-
-upper : (n : ℤ) (s h : ℕ) → h < s → n <ℤ (pos s -ℤ pos h) → n ≤ℤ pos (s - h - 1)
-upper n s h lt high = omega (arith, ints)
-
-within : (r : Rep) (n : ℤ) → InRange r n → is_within r n ≡ true
-within r n i =
-    let low : le_z (neg_ℤ (pos (half r))) n ≡ true = t_true _ (i.low).le in
-    let high : le_z n (pos (size r - half r - 1)) ≡ true = t_true _ (upper n (size r) (half r) (half_below r) i.high).le in
-    rw (low, high) refl
 
 small : (r : Rep) → (size r ≤ 2 ^ 64) × (half r ≤ 2 ^ 63)
 small I8 = (omega arith, omega arith)
@@ -211,7 +178,7 @@ cluster_says vs all bytes ts bound c =
 -- ---- all values
 
 abbrev IsSaid : Value → Type 0
-IsSaid v = IsWhole v → is_plain v ≡ true → Says (g v) (text v) v
+IsSaid v = IsWhole v → is_ranged v ≡ true → refers_to_none v ≡ true → Says (g v) (text v) v
 
 abbrev Said : Type 0
 Said = (v : Value) × IsSaid v
@@ -237,12 +204,13 @@ whole-in_array xs w =
     let h = every_held-Value IsLayer (value.Arr xs) w in
     held h.0 xs (h.1 ∙ value.outs-Arr xs)
 
-all_said : (ps : List Said) → All IsWhole (map (λ p. p.0) ps) → list_all (λ b. b) (map is_plain (map (λ p. p.0) ps)) ≡ true → Speak g (map (λ p. p.0) ps)
-all_said [] w h = tt
-all_said (p ∷ ps) w h =
+all_said : (ps : List Said) → All IsWhole (map (λ p. p.0) ps) → list_all is_ranged (map (λ p. p.0) ps) ≡ true → list_all refers_to_none (map (λ p. p.0) ps) ≡ true → Speak g (map (λ p. p.0) ps)
+all_said [] w k h = tt
+all_said (p ∷ ps) w k h =
     let vs = map (λ (q : Said). q.0) ps in
-    let q = and_parts (is_plain p.0) (list_all (λ b. b) (map is_plain vs)) h in
-    (p.1 (All-head IsWhole p.0 vs w) q.0, all_said ps (All-tail IsWhole p.0 vs w) q.1)
+    let r = and_parts (is_ranged p.0) (list_all is_ranged vs) k in
+    let q = and_parts (refers_to_none p.0) (list_all refers_to_none vs) h in
+    (p.1 (All-head IsWhole p.0 vs w) r.0 q.0, all_said ps (All-tail IsWhole p.0 vs w) r.1 q.1)
 
 none_at : (o : Option Live) → is_none o ≡ true → o ≡ None
 none_at None h = refl
@@ -253,51 +221,51 @@ no_rep (Ty-F.Num r) h = absurd cc
 no_rep _ h = refl
 
 said : (y : Value-F Said) → IsSaid (roll-Value (map-Value Said Value (λ p. p.0) y))
-said (Value-F.Num x) = subst IsSaid (sym (value.rolls-Num x)) (λ w h. says_by (value.Num x) (Number x.rep) (signed_decimal x.n) (ap form (type-Num x) ∙ form-Num x.rep) (text-Num x) (num_says x))
-said (Value-F.Bool b) = subst IsSaid (sym (value.rolls-Bool b)) (λ w h. says_by (value.Bool b) Truth (truth_text b) (ap form (type-Bool b) ∙ form-Bool) (text-Bool b) (bool_says b))
-said (Value-F.Str s) = subst IsSaid (sym (value.rolls-Str s)) (λ w h.
+said (Value-F.Num x) = subst IsSaid (sym (value.rolls-Num x)) (λ w k h. says_by (value.Num x) (Number x.rep) (signed_decimal x.n) (ap form (type-Num x) ∙ form-Num x.rep) (text-Num x) (num_says x))
+said (Value-F.Bool b) = subst IsSaid (sym (value.rolls-Bool b)) (λ w k h. says_by (value.Bool b) Truth (truth_text b) (ap form (type-Bool b) ∙ form-Bool) (text-Bool b) (bool_says b))
+said (Value-F.Str s) = subst IsSaid (sym (value.rolls-Str s)) (λ w k h.
     let le : length s ≤ most = subst IsLayer (value.outs-Str s) (every_here-Value IsLayer (value.Str s) w) in
-    says_by (value.Str s) Text (quoted s) (ap form (type-Str s) ∙ form-Str) (text-Str s) (str_says s le (sym (plain-Str s) ∙ h)))
-said (Value-F.Nums xs) = subst IsSaid (sym (value.rolls-Nums xs)) (λ w h.
+    says_by (value.Str s) Text (quoted s) (ap form (type-Str s) ∙ form-Str) (text-Str s) (str_says s le (sym (ranged-Str s) ∙ k)))
+said (Value-F.Nums xs) = subst IsSaid (sym (value.rolls-Nums xs)) (λ w k h.
     let le : length xs.all ≤ most = subst IsLayer (value.outs-Nums xs) (every_here-Value IsLayer (value.Nums xs) w) in
     let is = ap form (type-Nums xs) ∙ form-Arr (ty.Num xs.rep) ∙ ap (λ o. items_of (rep_of o) (ty.Num xs.rep) (form (ty.Num xs.rep))) (ty.outs-Num xs.rep) in
-    says_by (value.Nums xs) (Numbers xs.rep) (bracketed (map signed_decimal xs.all)) is (text-Nums xs) (nums_say xs le (sym (plain-Nums xs) ∙ h)))
+    says_by (value.Nums xs) (Numbers xs.rep) (bracketed (map signed_decimal xs.all)) is (text-Nums xs) (nums_say xs le (sym (ranged-Nums xs) ∙ k)))
 said (Value-F.Arr q) =
     let xs : ArrOf Value = record { elem = q.elem; items = map (λ p. p.0) q.items } in
-    subst IsSaid (sym (value.rolls-Arr xs)) (λ w h.
+    subst IsSaid (sym (value.rolls-Arr xs)) (λ w k h.
     let is : IsArr xs = subst IsLayer (value.outs-Arr xs) (every_here-Value IsLayer (value.Arr xs) w) in
-    let all = all_said q.items (whole-in_array xs w) (sym (plain-Arr xs) ∙ h) in
+    let all = all_said q.items (whole-in_array xs w) (sym (ranged-Arr xs) ∙ k) (sym (null-Arr xs) ∙ h) in
     let f = ap form (type-Arr xs) ∙ form-Arr xs.elem ∙ ap (λ o. items_of o xs.elem (form xs.elem)) (no_rep (out-Ty xs.elem) is.no_number) in
     says_by (value.Arr xs) (Items xs.elem (form xs.elem)) (bracketed (map text xs.items)) f (text-Arr xs) (arr_says xs is all))
 said (Value-F.Cluster ps) =
     let vs = map (λ (p : Said). p.0) ps in
-    subst IsSaid (sym (value.rolls-Cluster vs)) (λ w h.
-    let all = all_said ps (whole-in_cluster vs w) (sym (plain-Cluster vs) ∙ h) in
+    subst IsSaid (sym (value.rolls-Cluster vs)) (λ w k h.
+    let all = all_said ps (whole-in_cluster vs w) (sym (ranged-Cluster vs) ∙ k) (sym (null-Cluster vs) ∙ h) in
     says_by (value.Cluster vs) (Parts (forms_of (map form (map type_of vs)))) (braced (map text vs)) (ap form (type-Cluster vs) ∙ form-Cluster (map type_of vs)) (text-Cluster vs) (cluster_says vs all))
-said (Value-F.Queue r) = subst IsSaid (sym (value.rolls-Queue r)) (λ w h.
-    let none = none_at r.at (sym (plain-Queue r) ∙ h) in
+said (Value-F.Queue r) = subst IsSaid (sym (value.rolls-Queue r)) (λ w k h.
+    let none = none_at r.at (sym (null-Queue r) ∙ h) in
     let same : value.Queue (record { elem = r.elem; at = None }) ≡ value.Queue r = ap (λ o. value.Queue (record { elem = r.elem; at = o })) (sym none) in
     says_by (value.Queue r) (Null (value.Queue r)) (codes "null") (ap form (type-Queue r) ∙ form-QueueRef r.elem ∙ ap Null same) (text-Queue r ∙ ap reference_text none) (null_says (value.Queue r)))
-said (Value-F.Cell r) = subst IsSaid (sym (value.rolls-Cell r)) (λ w h.
-    let none = none_at r.at (sym (plain-Cell r) ∙ h) in
+said (Value-F.Cell r) = subst IsSaid (sym (value.rolls-Cell r)) (λ w k h.
+    let none = none_at r.at (sym (null-Cell r) ∙ h) in
     let same : value.Cell (record { elem = r.elem; at = None }) ≡ value.Cell r = ap (λ o. value.Cell (record { elem = r.elem; at = o })) (sym none) in
     says_by (value.Cell r) (Null (value.Cell r)) (codes "null") (ap form (type-Cell r) ∙ form-ValueRef r.elem ∙ ap Null same) (text-Cell r ∙ ap reference_text none) (null_says (value.Cell r)))
 
 says : (v : Value) → IsSaid v
 says = ind-Value IsSaid (λ x y is. subst (λ z. IsSaid (roll-Value z)) is (said y))
 
-pub spells_back : (v : Value) → IsProper v → is_plain v ≡ true → IsSpelling (type_of v) (text v) v
-spells_back v p h =
-    let s = says v p.whole h [] [] refl finish in
+pub spells_back : (v : Value) → IsProper v → is_ranged v ≡ true → refers_to_none v ≡ true → IsSpelling (type_of v) (text v) v
+spells_back v p k h =
+    let s = says v p.whole k h [] [] refl finish in
     let e : s.tokens ≡ tokens (text v) = sym (s.cut.kinds 0) ∙ ap tokens (append-nil (text v)) in
     subst (λ ts. Has (values (type_of v)) ts v []) e s.has
 
-pub printed_spells : (v : Value) (t : Ty) (w : List ℕ) → IsProper v → IsTrue (is_plain v) → type_of v ≡ t → w ≡ text v → IsSpelling t w v
-printed_spells v t w p h is e = subst (λ t. IsSpelling t w v) is (subst (λ w. IsSpelling (type_of v) w v) (sym e) (spells_back v p h))
+pub printed_spells : (v : Value) (t : Ty) (w : List ℕ) → IsProper v → IsTrue (is_ranged v) → IsTrue (refers_to_none v) → type_of v ≡ t → w ≡ text v → IsSpelling t w v
+printed_spells v t w p k h is e = subst (λ t. IsSpelling t w v) is (subst (λ w. IsSpelling (type_of v) w v) (sym e) (spells_back v p k h))
 
-pub printed : (v : Value) (w : List ℕ) → w ≡ text v → IsProper v → IsTrue (is_plain v) → IsSpelling (type_of v) w v
-printed v w e p h = printed_spells v (type_of v) w p h refl e
+pub printed : (v : Value) (w : List ℕ) → w ≡ text v → IsTrue (is_ranged v) → IsProper v → IsTrue (refers_to_none v) → IsSpelling (type_of v) w v
+printed v w e k p h = printed_spells v (type_of v) w p k h refl e
 
 -- and no other value of its type
-pub printed_only : (v : Value) (w : List ℕ) → w ≡ text v → IsProper v → IsTrue (is_plain v) → (u : Value) → IsSpelling (type_of v) w u → u ≡ v
-printed_only v w e p h u is = one_value (type_of v) w u v is (printed v w e p h)
+pub printed_only : (v : Value) (w : List ℕ) → w ≡ text v → IsTrue (is_ranged v) → IsProper v → IsTrue (refers_to_none v) → (u : Value) → IsSpelling (type_of v) w u → u ≡ v
+printed_only v w e k p h u is = one_value (type_of v) w u v is (printed v w e k p h)

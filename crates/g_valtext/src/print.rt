@@ -2,13 +2,14 @@
 
 ghost use Rattle.std.specs.Prelude.{◌≡◌, ◌++◌, ◌<◌, map, IfOk, IsTrue, OnOk};
 ghost use Rattle.std.specs.Fmt.{signed_decimal};
+ghost use Rattle.std.specs.List.{list_all};
 ghost use Rattle.g_types.specs.Ty.{joined};
 ghost use Rattle.g_values.specs.declared.value.Value.{Value as Item};
 ghost use Rattle.g_values.specs.Proper.{IsProper};
 ghost use Rattle.g_values.specs.Text as spec;
 ghost use Rattle.g_values.specs.Value.{type_of};
-ghost use Rattle.g_valtext.specs.Plain.{is_plain};
-ghost use Rattle.g_valtext.specs.Spellings.{IsSpelling};
+ghost use Rattle.g_valtext.specs.Plain.{is_byte, is_ranged, refers_to_none};
+ghost use Rattle.g_valtext.specs.Spellings.{IsSpelling, is_within};
 ghost use Rattle.g_valtext.specs.Words.{word_text};
 
 use g_types::{Bytes, Rep, wrap};
@@ -19,13 +20,14 @@ use std::alloc::{AllocError, Global};
 /// What stands between the items of an array or a cluster.
 const BETWEEN: &[u8] = b", ";
 
-/// The canonical text of a value. Where no reference in it is live, the text spells this value and no
-/// other of its type. Only want of memory refuses it.
+/// The canonical text of a value. Where each reference in it is null, the text spells this value and
+/// no other of its type. Only want of memory refuses it.
 #[tactic(auto, using(crate::proofs::Back::printed))]
 pub fn print_value(alloc: Global, value: &Value) -> Result<Bytes, AllocError>
     ensures text { IfOk result (λ text. text ≡ spec.text value.now) }
-    ensures spells { IfOk result (λ text. IsProper value.now → IsTrue (is_plain value.now) → IsSpelling (type_of value.now) text value.now) }
-    ensures only { IfOk result (λ text. IsProper value.now → IsTrue (is_plain value.now) → (v : Item) → IsSpelling (type_of value.now) text v → v ≡ value.now) }
+    ensures ranged { OnOk result (IsTrue (is_ranged value.now)) }
+    ensures spells { IfOk result (λ text. IsProper value.now → IsTrue (refers_to_none value.now) → IsSpelling (type_of value.now) text value.now) }
+    ensures only { IfOk result (λ text. IsProper value.now → IsTrue (refers_to_none value.now) → (v : Item) → IsSpelling (type_of value.now) text v → v ≡ value.now) }
 {
     let mut out = Vec::new(alloc);
     push_value(&mut out, value)?;
@@ -33,8 +35,10 @@ pub fn print_value(alloc: Global, value: &Value) -> Result<Bytes, AllocError>
 }
 
 #[cycle(print)]
+#[tactic(auto, using(crate::proofs::Ranged::rangeds))]
 fn push_value(out: &mut Vec<u8>, value: &Value) -> Result<(), AllocError>
-    ensures { OnOk result (out.new.items ≡ out.old.items ++ spec.text value.now) }
+    ensures text { OnOk result (out.new.items ≡ out.old.items ++ spec.text value.now) }
+    ensures ranged { OnOk result (IsTrue (is_ranged value.now)) }
 {
     match value {
         Value::Num(x) => push_number(out, x.n),
@@ -98,7 +102,8 @@ fn push_byte(out: &mut Vec<u8>, byte: u8) -> Result<(), AllocError>
 }
 
 fn push_quoted(out: &mut Vec<u8>, text: &[u8]) -> Result<(), AllocError>
-    ensures { OnOk result (out.new.items ≡ out.old.items ++ spec.quoted text.now) }
+    ensures text { OnOk result (out.new.items ≡ out.old.items ++ spec.quoted text.now) }
+    ensures bytes { IsTrue (list_all is_byte text.now) }
 {
     out.extend_from_slice(b"\"")?;
     for byte in text {
@@ -108,7 +113,8 @@ fn push_quoted(out: &mut Vec<u8>, text: &[u8]) -> Result<(), AllocError>
 }
 
 fn push_numbers(out: &mut Vec<u8>, numbers: &NumArr) -> Result<(), AllocError>
-    ensures { OnOk result (out.new.items ≡ out.old.items ++ joined (map signed_decimal numbers.now.all)) }
+    ensures text { OnOk result (out.new.items ≡ out.old.items ++ joined (map signed_decimal numbers.now.all)) }
+    ensures ranged { IsTrue (list_all (is_within numbers.now.rep) numbers.now.all) }
 {
     push_words(out, numbers.rep, numbers.words.as_slice())
 }
@@ -141,7 +147,8 @@ fn push_around(
     items: &[Value],
     after: &[u8],
 ) -> Result<(), AllocError>
-    ensures { OnOk result (out.new.items ≡ out.old.items ++ (before.now ++ (joined (map spec.text items.now) ++ after.now))) }
+    ensures text { OnOk result (out.new.items ≡ out.old.items ++ (before.now ++ (joined (map spec.text items.now) ++ after.now))) }
+    ensures ranged { OnOk result (IsTrue (list_all is_ranged items.now)) }
 {
     out.extend_from_slice(before)?;
     push_values(out, items)?;
@@ -150,7 +157,8 @@ fn push_around(
 
 #[cycle(print)]
 fn push_values(out: &mut Vec<u8>, items: &[Value]) -> Result<(), AllocError>
-    ensures { OnOk result (out.new.items ≡ out.old.items ++ joined (map spec.text items.now)) }
+    ensures text { OnOk result (out.new.items ≡ out.old.items ++ joined (map spec.text items.now)) }
+    ensures ranged { OnOk result (IsTrue (list_all is_ranged items.now)) }
 {
     if items.is_empty() {
         return Ok(());

@@ -8,7 +8,7 @@ ghost use Rattle.g_values.specs.Proper.{IsProper};
 ghost use Rattle.g_values.specs.Spelled.{IsSpelled};
 ghost use Rattle.g_values.specs.Text as printed;
 ghost use Rattle.g_values.specs.Value.{type_of};
-ghost use Rattle.g_valtext.specs.Plain.{is_plain};
+ghost use Rattle.g_valtext.specs.Plain.{is_ranged, refers_to_none};
 ghost use Rattle.g_valtext.specs.Reads.{GivesAll};
 ghost use Rattle.g_valtext.specs.Refused.{IsCause, IsMemory};
 ghost use Rattle.g_valtext.specs.Spellings.{IsSpelling, values};
@@ -67,8 +67,8 @@ pub fn read_value(alloc: Global, ty: &Ty, text: &[u8]) -> Result<Value, ValueRef
     // What the text spells is read, unless memory is wanting.
     ensures only { (v : Item) → IsSpelling ty.now text.now v → MatchResult result (λ w. w ≡ v) IsMemory }
 
-    // So what was printed is read back, where no reference in it is live.
-    ensures back { (v : Item) → IsProper v → IsTrue (is_plain v) → type_of v ≡ ty.now → text.now ≡ printed.text v → MatchResult result (λ w. w ≡ v) IsMemory }
+    // So what was printed is read back, where each reference in it is null.
+    ensures back { (v : Item) → IsProper v → IsTrue (is_ranged v) → IsTrue (refers_to_none v) → type_of v ≡ ty.now → text.now ≡ printed.text v → MatchResult result (λ w. w ≡ v) IsMemory }
     ensures refused { IfErr result (IsCause ty.now text.now) }
 {
     let found = match text_tokens(alloc, text) {

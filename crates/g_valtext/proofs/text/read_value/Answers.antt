@@ -29,12 +29,12 @@ returns-clause-refused c =
     refused_by c.args.ty.now c.args.text.now ts bad c.in-Ok.found.places c.place_at-byte.result (c.as_slice-tokens.ensures ∙ c.in-Ok.ensures.tokens) c.in-Ok.ensures.places (rw c.in-At.is at c.in-Err-whole_value.ensures) place
 
 pub returns-in-Ok-whole_value-clause-back : goal.returns-in-Ok-whole_value-clause-back
-returns-in-Ok-whole_value-clause-back c = λ v p h is e.
-    only_by c.args.ty.now c.args.text.now c.as_slice-tokens.result.now c.in-Ok-whole_value.value v (c.as_slice-tokens.ensures ∙ c.in-Ok.ensures.tokens) c.in-Ok-whole_value.ensures (printed_spells v c.args.ty.now c.args.text.now p h is e)
+returns-in-Ok-whole_value-clause-back c = λ v p k h is e.
+    only_by c.args.ty.now c.args.text.now c.as_slice-tokens.result.now c.in-Ok-whole_value.value v (c.as_slice-tokens.ensures ∙ c.in-Ok.ensures.tokens) c.in-Ok-whole_value.ensures (printed_spells v c.args.ty.now c.args.text.now p k h is e)
 
 pub returns-clause-back : goal.returns-clause-back
-returns-clause-back c = λ v p h is e.
-    never_by c.args.ty.now c.args.text.now c.as_slice-tokens.result.now c.in-At.rest.now v (c.as_slice-tokens.ensures ∙ c.in-Ok.ensures.tokens) (rw c.in-At.is at c.in-Err-whole_value.ensures) (printed_spells v c.args.ty.now c.args.text.now p h is e)
+returns-clause-back c = λ v p k h is e.
+    never_by c.args.ty.now c.args.text.now c.as_slice-tokens.result.now c.in-At.rest.now v (c.as_slice-tokens.ensures ∙ c.in-Ok.ensures.tokens) (rw c.in-At.is at c.in-Err-whole_value.ensures) (printed_spells v c.args.ty.now c.args.text.now p k h is e)
 
 pub returns-in-Ok-whole_value-clause-typed : goal.returns-in-Ok-whole_value-clause-typed
 returns-in-Ok-whole_value-clause-typed c =
