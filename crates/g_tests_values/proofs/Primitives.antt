@@ -1,5 +1,5 @@
 -- What the values of the tests are.
-use Rattle.std.proofs.Common.{◌≡◌, ◌≤◌, ◌<◌, ℕ, zero, suc, true, false, List, [], ◌∷◌, length, Some, arith}
+use Rattle.std.proofs.Common.{◌≡◌, ◌≤◌, ◌<◌, ℕ, true, false, List, [], ◌∷◌, length, Some, arith}
 use Rattle.g_types.specs.declared.ty.Ty.{Ty}
 use Rattle.g_values.specs.Numbers.{Numbers}
 use Rattle.g_values.specs.Proper.{IsProper}
@@ -17,9 +17,9 @@ proper_few xs h = proper_nums xs (omega arith)
 pub text_is : (s : List ℕ) → length s ≤ 1000 → IsProper (value.Str s)
 text_is s h = proper_text s (omega arith)
 
-pub acts_first : (p : Primitive) (ts outs : List Ty) → row_of p ts ≡ Some outs → length outs ≡ 1 → takes p ts 0 ≡ true → Acts p 0 ts
-acts_first p ts [] h n t = absurd (omega arith)
-acts_first p ts (u ∷ []) h n t = record { output = u; row = h; taken = t; first = λ k l. absurd (omega arith) }
-acts_first p ts (u ∷ v ∷ us) h n t = absurd (omega arith)
+pub acts_of : (p : Primitive) (at : ℕ) (ts outs : List Ty) → row_of p ts ≡ Some outs → length outs ≡ 1 → takes p ts at ≡ true → ((k : ℕ) → k < at → takes p ts k ≡ false) → Acts p at ts
+acts_of p at ts [] h n t f = absurd (omega arith)
+acts_of p at ts (u ∷ []) h n t f = record { output = u; row = h; taken = t; first = f }
+acts_of p at ts (u ∷ v ∷ us) h n t f = absurd (omega arith)
 
-pub ruleset propers = (proper_num, proper_bool, proper_few, text_is)
+pub ruleset propers = (proper_num, proper_bool)

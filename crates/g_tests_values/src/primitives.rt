@@ -1,7 +1,8 @@
 //! Primitives: a table of rows with their values, refusals, and operations in the kept buffer.
 
-ghost use Rattle.std.specs.Prelude.{◌≡◌, ◌∷◌, ◌≤◌, IfOk, length, map, true};
+ghost use Rattle.std.specs.Prelude.{◌≡◌, ◌∷◌, ◌≤◌, ◌<◌, IfOk, length, map, true, false, ℕ};
 ghost use Rattle.std.specs.List.{All};
+ghost use Rattle.g_arrays.specs.Acting.{placed};
 ghost use Rattle.g_prims_definitions.specs.Takes.{takes};
 ghost use Rattle.g_values.specs.Proper.{IsProper};
 ghost use Rattle.g_values.specs.Value.{type_of};
@@ -35,31 +36,30 @@ fn number(rep: Rep, n: i128) -> Value
 }
 
 fn listed(alloc: Global, items: &[i128]) -> Result<NumArr, AllocError>
+    requires { length items.now ≤ 1000 }
     ensures { IfOk result (λ xs. length xs.all ≤ 1000) }
 {
     let mut xs = NumArr::new(alloc, Rep::I32);
-    for at in 0..items.len().min(1000) {
-        xs.push(Num::wrapped(Rep::I32, items[at]))?;
+    for item in items {
+        xs.push(Num::wrapped(Rep::I32, *item))?;
     }
     Ok(xs)
 }
 
-#[tactic(auto, using(crate::proofs::Primitives::propers))]
 fn array(alloc: Global, items: &[i128]) -> Result<Value, AllocError>
+    requires { length items.now ≤ 1000 }
     ensures { IfOk result IsProper }
 {
     let xs = listed(alloc, items)?;
     Ok(Value::Nums(xs))
 }
 
-#[tactic(auto, using(crate::proofs::Primitives::propers))]
 fn text(alloc: Global, bytes: &[u8]) -> Result<Value, AllocError>
+    requires { length bytes.now ≤ 1000 }
     ensures { IfOk result IsProper }
 {
-    if bytes.len() > 1000 {
-        return Err(AllocError);
-    }
-    Ok(Value::Str(Bytes::from_slice(alloc, bytes)?))
+    let kept = Bytes::from_slice(alloc, bytes)?;
+    Ok(Value::Str(kept))
 }
 
 #[tactic(auto, using(crate::proofs::Primitives::propers))]
@@ -77,8 +77,18 @@ fn value(alloc: Global, of: Of) -> Result<Value, AllocError>
         Of::U32(n) => Ok(number(Rep::U32, n)),
         Of::I8(n) => Ok(number(Rep::I8, n)),
         Of::Truth(b) => Ok(truth(b)),
-        Of::Text(bytes) => text(alloc, bytes),
-        Of::Items(items) => array(alloc, items),
+        Of::Text(bytes) => {
+            if bytes.len() > 1000 {
+                return Err(AllocError);
+            }
+            text(alloc, bytes)
+        }
+        Of::Items(items) => {
+            if items.len() > 1000 {
+                return Err(AllocError);
+            }
+            array(alloc, items)
+        }
     }
 }
 
@@ -94,24 +104,20 @@ fn are_same(found: &[Value], wanted: &[Value]) -> bool {
     if found.len() != wanted.len() {
         return false;
     }
-    for at in 0..found.len() {
-        if !same(&found[at], &wanted[at]) {
-            return false;
-        }
-    }
-    true
+    found
+        .iter()
+        .zip(wanted)
+        .all(|(found, wanted)| same(found, wanted))
 }
 
 fn are_same_types(found: &[Ty], wanted: &[Ty]) -> bool {
     if found.len() != wanted.len() {
         return false;
     }
-    for at in 0..found.len() {
-        if !same_type(&found[at], &wanted[at]) {
-            return false;
-        }
-    }
-    true
+    found
+        .iter()
+        .zip(wanted)
+        .all(|(found, wanted)| same_type(found, wanted))
 }
 
 /// Whether the row of the inputs gives the types and the values of these outputs.
@@ -232,8 +238,37 @@ fn copies(alloc: Global, kept: &Value, others: &[Value]) -> Result<ValueList, Al
     Ok(ins)
 }
 
-/// Whether an operation that takes its first input gives in its buffer what the plain program gives.
-fn acts(
+/// Whether an operation gives in the kept buffer what the plain program gives.
+fn acts_at(
+    alloc: Global,
+    primitive: &Primitive,
+    ins: &ValueList,
+    at: u32,
+    kept: Value,
+    others: &mut ValueList,
+) -> Result<bool, AllocError>
+    requires proper { IsProper kept }
+    requires ins { ins.now ≡ placed at kept others.old }
+    requires taken { takes primitive.now (map type_of ins.now) at ≡ true }
+    requires first { (k : ℕ) → k < at → takes primitive.now (map type_of ins.now) k ≡ false }
+{
+    let types = types_of(alloc, ins.as_slice())?;
+    let Ok(outs) = type_row(alloc, primitive, &types) else {
+        return Ok(false);
+    };
+    if outs.len() != 1 {
+        return Ok(false);
+    }
+    let expected = apply(alloc, primitive, ins)?;
+    let result = act_on(alloc, primitive, at, kept, others)?;
+    match expected.as_slice() {
+        [value] => Ok(same(value, &result)),
+        _ => Ok(false),
+    }
+}
+
+/// The same where the first input is kept.
+fn acts_first(
     alloc: Global,
     primitive: &Primitive,
     kept: Value,
@@ -243,32 +278,31 @@ fn acts(
     requires taken { takes primitive.now (map type_of (kept ∷ others.old)) 0 ≡ true }
 {
     let ins = copies(alloc, &kept, others.as_slice())?;
-    let types = types_of(alloc, ins.as_slice())?;
-    let Ok(outs) = type_row(alloc, primitive, &types) else {
-        return Ok(false);
-    };
-    if outs.len() != 1 {
-        return Ok(false);
-    }
-    let wanted = apply(alloc, primitive, &ins)?;
-    let found = act_on(alloc, primitive, 0, kept, others)?;
-    match wanted.as_slice() {
-        [value] => Ok(same(value, &found)),
-        _ => Ok(false),
-    }
+    acts_at(alloc, primitive, &ins, 0, kept, others)
+}
+
+fn sorts(alloc: Global) -> Result<bool, AllocError> {
+    let xs = array(alloc, &[5, 3, 4, 1, 2, 9, 8, 7, 6])?;
+    acts_first(alloc, &Primitive::Sort, xs, &mut ValueList::new(alloc))
+}
+
+fn replaces(alloc: Global) -> Result<bool, AllocError> {
+    let mut others = values(alloc, &[Of::I32(1), Of::I32(9)])?;
+    let xs = array(alloc, &[1, 2, 3])?;
+    acts_first(alloc, &Primitive::Replace, xs, &mut others)
+}
+
+fn concatenates(alloc: Global) -> Result<bool, AllocError> {
+    let mut others = values(alloc, &[Of::Items(&[4])])?;
+    let xs = array(alloc, &[1, 2, 3])?;
+    acts_first(alloc, &Primitive::Concat, xs, &mut others)
 }
 
 #[test]
 fn operations_in_a_buffer(rt: HostRuntime) -> Result<(), Fail> {
-    use Of::{I32, Items};
     let alloc = rt.alloc();
-    let xs = array(alloc, &[5, 3, 4, 1, 2, 9, 8, 7, 6])?;
-    assert!(rt; acts(alloc, &Primitive::Sort, xs, &mut ValueList::new(alloc))?);
-    let xs = array(alloc, &[1, 2, 3])?;
-    let mut others = values(alloc, &[I32(1), I32(9)])?;
-    assert!(rt; acts(alloc, &Primitive::Replace, xs, &mut others)?);
-    let xs = array(alloc, &[1, 2, 3])?;
-    let mut others = values(alloc, &[Items(&[4])])?;
-    assert!(rt; acts(alloc, &Primitive::Concat, xs, &mut others)?);
+    assert!(rt; sorts(alloc)?);
+    assert!(rt; replaces(alloc)?);
+    assert!(rt; concatenates(alloc)?);
     Ok(())
 }
