@@ -1,1 +1,1 @@
-pub mod Primitives
+pub mod ProperValues

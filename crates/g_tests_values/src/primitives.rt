@@ -28,7 +28,7 @@ enum Of {
     Items(&'static [i128]),
 }
 
-#[tactic(auto, using(crate::proofs::Primitives::propers))]
+#[tactic(auto, using(crate::proofs::ProperValues::propers))]
 fn number(rep: Rep, n: i128) -> Value
     ensures { IsProper result }
 {
@@ -62,7 +62,7 @@ fn text(alloc: Global, bytes: &[u8]) -> Result<Value, AllocError>
     Ok(Value::Str(kept))
 }
 
-#[tactic(auto, using(crate::proofs::Primitives::propers))]
+#[tactic(auto, using(crate::proofs::ProperValues::propers))]
 fn truth(b: bool) -> Value
     ensures { IsProper result }
 {

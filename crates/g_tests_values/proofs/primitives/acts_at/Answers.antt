@@ -2,7 +2,7 @@ use Rattle.std.proofs.Common.{◌≡◌, ◌∙◌, map, length, ap, sym, subst,
 use Rattle.g_values.specs.Value.{type_of}
 use Rattle.g_prims_definitions.specs.Rows.{row_of}
 use Rattle.g_arrays.specs.Acting.{Acts}
-use Rattle.g_tests_values.proofs.Primitives.{acts_of}
+use Rattle.g_tests_values.proofs.ProperValues.{acts_of}
 use Rattle.g_tests_values.proofs.primitives.acts_at.Goals as goal
 
 pub act_on-requires-clause-acts : goal.act_on-requires-clause-acts

@@ -1,4 +1,4 @@
-use Rattle.g_tests_values.proofs.Primitives.{proper_few}
+use Rattle.g_tests_values.proofs.ProperValues.{proper_few}
 use Rattle.g_tests_values.proofs.primitives.array.Goals as goal
 
 pub returns : goal.returns

@@ -1,5 +1,5 @@
 use Rattle.std.proofs.Common.{length, ap, arith}
-use Rattle.g_tests_values.proofs.Primitives.{text_is}
+use Rattle.g_tests_values.proofs.ProperValues.{text_is}
 use Rattle.g_tests_values.proofs.primitives.text.Goals as goal
 
 pub returns : goal.returns
