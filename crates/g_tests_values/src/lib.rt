@@ -1,11 +1,9 @@
-//! The tests of the public calls on types, values, primitives and text: one happy path each, with its
+//! The tests of the public calls on types, values, text and devices: one happy path each, with its
 //! answer by hand.
 #![tactic(auto)]
 
 #[cfg(test)]
 mod devices;
-#[cfg(test)]
-mod primitives;
 #[cfg(test)]
 mod text;
 #[cfg(test)]
