@@ -164,7 +164,7 @@ fn checks_types(rt: HostRuntime) -> Result<(), Fail> {
         ),
         // a value of another type for a constant, and a text for a number
         (
-            "const i32 TRUE -> r\nconst str \"1\" -> s\n",
+            "const i32 TRUE -> r\nconst str \"1\" -> s\ninc a -> _\n",
             3,
             "Main:3.1 rule 17\nMain:4.0 rule 15\n",
         ),
