@@ -1,0 +1,15 @@
+pub mod ReadPhrases
+pub mod ReadTokens
+pub mod ReadLiterals
+pub mod ReadBorders
+pub mod ReadNodes
+pub mod ReadListing
+pub mod MakePhrases
+pub mod MakeTokens
+pub mod MakeTypes
+pub mod MakeLiterals
+pub mod MakeBorders
+pub mod MakeSelectors
+pub mod MakeNodes
+pub mod MakePanels
+pub mod MakeListing
