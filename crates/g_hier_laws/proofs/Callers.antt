@@ -16,9 +16,10 @@ use Rattle.g_hier.specs.declared.linked.Space.{Space}
 use Rattle.g_hier.specs.Counts.{one_if, calls_to}
 use Rattle.g_hier.specs.LinkOrder.{system_for, pool_spaces, enterable, placed_by, entered_by, same_caller, same_space, has_met}
 use Rattle.g_hier.specs.Outlines.{calls_at}
+use Rattle.g_hier_laws.specs.Counted.{HaveOwnLines}
 use Rattle.g_hier_laws.proofs.Spaces.{same, same_is, is_both}
 use Rattle.g_hier_laws.proofs.Entered.{spaces_in, attempts, met_both}
-use Rattle.g_hier_laws.proofs.Rising.{lines_on}
+use Rattle.g_hier_laws.proofs.Rising.{lines_on, lines_more}
 
 -- what a call can enter of a VI, if there is one
 abbrev pub enters_of : Option Outline → (vi : ℕ) → Caller → List Space
@@ -153,7 +154,7 @@ second_if false b = omega arith
 
 at_most : (k : Caller) (v i : ℕ) (cs : List CallLine) → times k (callers_at v i cs) ≤ lines_on k.line cs
 at_most k v i [] = omega arith
-at_most k v i (c ∷ cs) = by (c.vi == v) (at_most k v i cs)
+at_most k v i (c ∷ cs) = let le = by (c.vi == v) (at_most k v i cs) in let e = lines_more k.line c cs in omega (arith, e, le)
   where
     by : (b : Bool) → times k (callers_at v i cs) ≤ lines_on k.line cs → times k (cond b (caller i c ∷ callers_at v i cs) (callers_at v i cs)) ≤ one_if (c.line == k.line) + lines_on k.line cs
     by true le = let one = second_if (i == k.space) (c.line == k.line) in omega (arith, one, le)
@@ -171,7 +172,7 @@ record Once (k : Caller) (i : ℕ) (ks : List Caller) : Type 0 where
   once : times k ks ≤ 1
   later : k.space < i → times k ks ≡ 0
 
-module _ (os : List Outline) (lines : (u l : ℕ) → lines_on l (calls_at os u) ≤ 1) (v : ℕ) (k : Caller) where
+module _ (os : List Outline) (lines : HaveOwnLines os) (v : ℕ) (k : Caller) where
   from_on : (i : ℕ) (ps : List Placed) → Once k i (callers_of os v i ps)
   from_on i [] = record { once = omega arith; later = λ lt. refl }
   from_on i (p ∷ ps) = by (i == k.space) refl (from_on (suc i) ps)

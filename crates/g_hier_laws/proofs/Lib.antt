@@ -6,3 +6,4 @@ mod PerVi
 mod Tally
 mod Order
 mod Linking
+mod Examples

@@ -17,17 +17,17 @@ use Rattle.g_hier.specs.declared.linked.Space.{Space}
 use Rattle.g_hier.specs.Answer.{Links}
 use Rattle.g_hier.specs.Counts.{callers, count_for, nodes_in, AreCounts, IsNodeCount}
 use Rattle.g_hier.specs.LinkOrder.{enters, EntersFrom, has_vi}
-use Rattle.g_hier.specs.Outlines.{calls, calls_at, outlines_of}
+use Rattle.g_hier.specs.Outlines.{calls, outlines_of}
 use Rattle.g_hier.proofs.Calls.{Calling, callers_some}
 use Rattle.g_hier.proofs.CallsBack.{acyclic}
-use Rattle.g_hier_laws.specs.Counted.{nodes_over, IsAsCounted}
+use Rattle.g_hier_laws.specs.Counted.{nodes_over, IsAsCounted, HaveOwnLines}
 use Rattle.g_hier_laws.proofs.Spaces.{number}
 use Rattle.g_hier_laws.proofs.Entered.{spaces_in}
 use Rattle.g_hier_laws.proofs.Callers.{callers_of, calls_from, as_many_callers}
 use Rattle.g_hier_laws.proofs.PerVi.{expected, number_is}
 use Rattle.g_hier_laws.proofs.Tally.{tally, callers_tally, nodes_tally, tally_at, tally_counts}
 use Rattle.g_hier_laws.proofs.Order.{often, stands_once, stands_there}
-use Rattle.g_hier_laws.proofs.Rising.{lines_on, own_lines}
+use Rattle.g_hier_laws.proofs.Rising.{own_lines}
 
 -- calls that can enter are calls
 plain_walk : (os : List Outline) (n a b : ℕ) → Walk (enters os) n a b → Walk (calls os) n a b
@@ -43,7 +43,7 @@ no_caller : (ks : List Caller) → length ks ≡ 0 → ks ≡ []
 no_caller [] e = refl
 no_caller (k ∷ ks) e = absurd (omega (arith, e))
 
-module _ (os : List Outline) (main : ℕ) (l : Linked) (links : Links os main l) (lines : (u n : ℕ) → lines_on n (calls_at os u) ≤ 1) where
+module _ (os : List Outline) (main : ℕ) (l : Linked) (links : Links os main l) (lines : HaveOwnLines os) where
   abbrev met : List Placed
   met = links.linked.met
 
@@ -95,13 +95,13 @@ module _ (os : List Outline) (main : ℕ) (l : Linked) (links : Links os main l)
   nodes_are : (count : ℕ) → IsNodeCount os main count → nodes_over os l.spaces ≡ count
   nodes_are count c = ap (nodes_over os) links.linked.spaces_are ∙ sym (nodes_tally os spaces) ∙ ap (nodes_in os) (c.only tallied are_counts) ∙ sym c.count_is
 
-  counted : IsAsCounted os main l
-  counted = record {
+  is_as_counted : IsAsCounted os main l
+  is_as_counted = record {
     spaces = λ counts are v. ap (count_by (λ s. s.vi == v)) links.linked.spaces_are ∙ sym (length-filter (λ s. s.vi == v) spaces) ∙ count_at counts are v;
     nodes = nodes_are;
     few = let e = nodes_are links.count links.counted in let le = links.few in omega (arith, e, le);
     vis = λ counts are v. ap (often v) links.linked.order_is ∙ stands_once met v ∙ ap (min 1) (count_at counts are v);
   }
 
-pub as_counted : (h : Hierarchy) (main : ℕ) (l : Linked) → Links (outlines_of h) main l → IsAsCounted (outlines_of h) main l
-as_counted h main l links = counted (outlines_of h) main l links (own_lines h.vis h.vis)
+pub counted : (h : Hierarchy) (main : ℕ) (l : Linked) → Links (outlines_of h) main l → IsAsCounted (outlines_of h) main l
+counted h main l links = is_as_counted (outlines_of h) main l links (own_lines h)

@@ -12,11 +12,10 @@ use Rattle.g_hier.specs.declared.linked.Placed.{Placed}
 use Rattle.g_hier.specs.declared.linked.Space.{Space}
 use Rattle.g_hier.specs.Counts.{one_if, spaces_for, count_for}
 use Rattle.g_hier.specs.LinkOrder.{pool_spaces, enterable, same_caller, has_met, main_placed, AreInLinkOrder}
-use Rattle.g_hier.specs.Outlines.{calls_at}
+use Rattle.g_hier_laws.specs.Counted.{HaveOwnLines}
 use Rattle.g_hier_laws.proofs.Spaces.{same, callers_same, is_both, none_twice, number, as_many}
 use Rattle.g_hier_laws.proofs.Entered.{spaces_in, all_met, met_is, met_once}
 use Rattle.g_hier_laws.proofs.Callers.{enters_of, over, one_is, over_own, callers_of, attempted, times, once_called}
-use Rattle.g_hier_laws.proofs.Rising.{lines_on}
 
 -- what some callers can enter, none twice
 record Listed (f : Caller → List Space) (ks : List Caller) (n : ℕ) : Type 0 where
@@ -134,7 +133,7 @@ main_own : (x : Option Outline) (main : ℕ) (q : Space) → is_member same (mai
 main_own None main q h = absurd cc
 main_own (Some o) main q h = one_is (record { vi = main; clone = 0; caller = None }) q h
 
-module _ (os : List Outline) (main : ℕ) (met : List Placed) (order : AreInLinkOrder os main met) (lines : (u l : ℕ) → lines_on l (calls_at os u) ≤ 1)
+module _ (os : List Outline) (main : ℕ) (met : List Placed) (order : AreInLinkOrder os main met) (lines : HaveOwnLines os)
     (uncalled : callers_of os main 0 met ≡ []) where
   has : (v : ℕ) (q : Space) → q.vi ≡ v → is_member same (spaces_in met) q ≡ (is_member same (main_space (slice_get os main) main) q || is_member same (over (enters_of (slice_get os v) v) (callers_of os v 0 met)) q)
   has v q own = met_is met q ∙ all_met os main met order q

@@ -1,6 +1,8 @@
 -- The nodes of a VI stand by line, so that each of its call lines has a line of its own.
-use Rattle.std.proofs.Common.{◌≡◌, ⊎_elim, ℕ, zero, suc, ◌+◌, ◌<◌, ◌≤◌, ◌==◌, List, [], ◌∷◌, ◌++◌, map, length, refl, sym, subst, arith, Some, None}
+use Rattle.std.proofs.Common.{◌≡◌, ⊎_elim, ℕ, zero, suc, ◌+◌, ◌<◌, ◌≤◌, ◌==◌, Bool, true, false, cond, List, [], ◌∷◌, ◌++◌, map, length, refl, ap, ◌∙◌, sym, subst, arith, Some, None}
+use Rattle.std.specs.List.{count_by}
 use Rattle.std.proofs.lemmas.Bool.{cases_eq}
+use Rattle.std.proofs.lemmas.List.Sums.{sum_by-cons, sum_by-append}
 use Rattle.g_diagram.specs.declared.node.Tunnel.{Tunnel}
 use Rattle.g_diagram.specs.declared.node.Node.{Node}
 use Rattle.g_diagram.specs.declared.node.Branch.{Branch}
@@ -12,12 +14,14 @@ use Rattle.g_diagram.specs.declared.node.Node.TheFolds.{ind-Node, map-Node, map-
 use Rattle.g_diagram.specs.declared.panel.PanelItem.{PanelItem}
 use Rattle.g_diagram.specs.declared.panel.PanelItem.TheVariants.{Control, Indicator}
 use Rattle.g_diagram.specs.declared.hierarchy.Vi.{Vi}
+use Rattle.g_diagram.specs.declared.hierarchy.Hierarchy.{Hierarchy}
 use Rattle.g_diagram.specs.Lines.{Wire, Lines, BranchLines, FrameLines, Entry, Kind, Call, one_line, loop_lines, in_order, count_of, entries_in, give_lines, branch_count, branches_count, branches_entries, frame_count, frames_count, frames_entries, lines_of, node_step, branch_step, diagram_step, frame_step, nodes_entries, panel_entries, entries_of}
 use Rattle.g_diagram.specs.Lines as kind
 use Rattle.g_diagram.proofs.LineLemmas.{diagram_lines, branch_lines, frame_lines, case_lines, sequence_lines, lines-diagram, lines-branch, lines-frame, in_turn}
 use Rattle.g_hier.specs.declared.linked.CallLine.{CallLine}
 use Rattle.g_hier.specs.Counts.{one_if}
-use Rattle.g_hier.specs.Outlines.{call_on, calls_on, outline_of, calls_at}
+use Rattle.g_hier.specs.Outlines.{number_of, call_on, calls_on, outline_of, outlines_of, calls_at}
+use Rattle.g_hier_laws.specs.Counted.{HaveOwnLines}
 use Rattle.g_hier.proofs.Numbers.{one_apart, one_if_le}
 
 -- from a line on and below another, each on a later line than the one before
@@ -200,17 +204,19 @@ vi_rises vi =
 
 -- call lines
 
--- how many of some call lines have a line
+-- how many calls are on a line
 abbrev pub lines_on : (line : ℕ) → List CallLine → ℕ
-lines_on l [] = 0
-lines_on l (c ∷ cs) = one_if (c.line == l) + lines_on l cs
+lines_on l cs = count_by (λ c. c.line == l) cs
 
-lines_both : (l : ℕ) (xs ys : List CallLine) → lines_on l (xs ++ ys) ≡ lines_on l xs + lines_on l ys
-lines_both l [] ys = omega arith
-lines_both l (x ∷ xs) ys = omega (arith, lines_both l xs ys)
+pub lines_more : (l : ℕ) (c : CallLine) (cs : List CallLine) → lines_on l (c ∷ cs) ≡ one_if (c.line == l) + lines_on l cs
+lines_more l c cs = sum_by-cons (λ (d : CallLine). cond (d.line == l) 1 0) c cs ∙ ap (λ n. n + lines_on l cs) (one (c.line == l))
+  where
+    one : (b : Bool) → cond b 1 0 ≡ one_if b
+    one true = refl
+    one false = refl
 
 on_call : (vis : List Vi) (l line : ℕ) (k : Kind) → lines_on l (call_on vis line k) ≤ one_if (line == l)
-on_call vis l line (Call name inputs outputs) = omega arith
+on_call vis l line (Call name inputs outputs) = let e = lines_more l (record { line = line; vi = number_of vis name }) [] in omega (arith, e)
 on_call vis l line other = omega arith
 
 record Once (low l : ℕ) (cs : List CallLine) : Type 0 where
@@ -220,7 +226,7 @@ record Once (low l : ℕ) (cs : List CallLine) : Type 0 where
 calls_once : (vis : List Vi) (l low high : ℕ) (es : List Entry) → Rises low high es → Once low l (calls_on vis es)
 calls_once vis l low high [] r = record { once = omega arith; later = λ lt. refl }
 calls_once vis l low high (e ∷ es) r =
-    let both = lines_both l (call_on vis e.line e.kind) (calls_on vis es) in
+    let both = sum_by-append (λ (c : CallLine). cond (c.line == l) 1 0) (call_on vis e.line e.kind) (calls_on vis es) in
     let here = on_call vis l e.line e.kind in
     let from = r.0 in
     let rest : Once (suc e.line) l (calls_on vis es) = calls_once vis l (suc e.line) high es r.1 in
@@ -232,10 +238,13 @@ calls_once vis l low high (e ∷ es) r =
     record { once = omega (arith, both, here, zero, more); later = λ lt. let none = rest.later (omega (arith, lt, from)) in omega (arith, both, here, zero, none) })
     (cases_eq e.line l)
 
--- of a VI of a hierarchy
-pub own_lines : (all vis : List Vi) (u l : ℕ) → lines_on l (calls_at (map (outline_of all) vis) u) ≤ 1
-own_lines all [] u l = omega arith
-own_lines all (vi ∷ vis) zero l =
+lines_of_vi : (all vis : List Vi) (v l : ℕ) → lines_on l (calls_at (map (outline_of all) vis) v) ≤ 1
+lines_of_vi all [] v l = omega arith
+lines_of_vi all (vi ∷ vis) zero l =
     let o : Once 1 l (calls_on all (entries_of vi)) = calls_once all l 1 ((1 + length vi.panel) + count_of (map lines_of vi.top.nodes)) (entries_of vi) (vi_rises vi) in
     o.once
-own_lines all (vi ∷ vis) (suc u) l = own_lines all vis u l
+lines_of_vi all (vi ∷ vis) (suc v) l = lines_of_vi all vis v l
+
+-- of a hierarchy's VIs
+pub own_lines : (h : Hierarchy) → HaveOwnLines (outlines_of h)
+own_lines h = lines_of_vi h.vis h.vis

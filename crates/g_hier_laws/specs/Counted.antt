@@ -1,13 +1,11 @@
--- The data spaces that are linked, against the counts of cloning.
+-- The data spaces that are linked, against the counts of cloning, and the lines of calls.
 use Rattle.std.specs.Prelude.{ℕ, ◌≡◌, ◌≤◌, ◌==◌, List, map, min, slice_index}
 use Rattle.std.specs.List.{sum_by, count_by}
-use Rattle.g_diagram.specs.declared.hierarchy.Hierarchy.{Hierarchy}
 use Rattle.g_hier.specs.declared.linked.Linked.{Linked}
 use Rattle.g_hier.specs.declared.linked.Outline.{Outline}
 use Rattle.g_hier.specs.declared.linked.Space.{Space}
-use Rattle.g_hier.specs.Answer.{Links}
 use Rattle.g_hier.specs.Counts.{AreCounts, IsNodeCount, most_nodes}
-use Rattle.g_hier.specs.Outlines.{outlines_of}
+use Rattle.g_hier.specs.Outlines.{calls_at}
 
 -- the nodes of a VI
 abbrev pub nodes_at : List Outline → (vi : ℕ) → ℕ
@@ -26,6 +24,6 @@ pub record IsAsCounted (os : List Outline) (main : ℕ) (l : Linked) : Type 0 wh
   -- the VIs are those with a data space, each once
   pub vis : (counts : List ℕ) → AreCounts os main counts → (v : ℕ) → count_by (λ u. u == v) l.order ≡ min 1 (slice_index counts v)
 
--- whatever is linked of a hierarchy
-abbrev pub AreAsCounted : Type 0
-AreAsCounted = (h : Hierarchy) (main : ℕ) (l : Linked) → Links (outlines_of h) main l → IsAsCounted (outlines_of h) main l
+-- no line of a VI has two calls
+abbrev pub HaveOwnLines : List Outline → Type 0
+HaveOwnLines os = (v l : ℕ) → count_by (λ c. c.line == l) (calls_at os v) ≤ 1
