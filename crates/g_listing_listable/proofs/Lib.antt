@@ -10,6 +10,11 @@ pub mod MakeTypes
 pub mod MakeLiterals
 pub mod MakeBorders
 pub mod MakeSelectors
+pub mod PlainNodes
 pub mod MakeNodes
 pub mod MakePanels
 pub mod MakeListing
+pub mod WrittenTexts
+pub mod WrittenNodes
+pub mod ListedExactly
+pub mod Examples

@@ -1,6 +1,6 @@
 -- What a hierarchy is that a listing can have: all that the grammar of listings asks of names, numbers, texts, types, literals, lines and
 -- levels, said of the hierarchy itself.
-use Rattle.std.specs.Prelude.{◌≡◌, ◌≤◌, ◌<◌, ◌^◌, ◌||◌, ℕ, zero, suc, ℤ, pos, negsuc, ⊤, Bool, true, false, List, [], ◌∷◌, length, Option, Some, None}
+use Rattle.std.specs.Prelude.{◌≡◌, ◌≤◌, ◌<◌, ◌^◌, ◌↔◌, ◌||◌, ℕ, zero, suc, ℤ, pos, negsuc, ⊤, Bool, true, false, List, [], ◌∷◌, length, Option, Some, None, refl}
 use Rattle.std.specs.List.{All}
 use Rattle.g_types.specs.Names.{is_word}
 use Rattle.g_values.specs.Spelled.{IsSpelled}
@@ -124,6 +124,19 @@ has_form b form.Ref = is_place b
 has_form b form.Element = is_place b
 has_form b form.Field = is_place b
 
+-- examples
+while_has_no_index : has_form While form.Index ≡ false
+while_has_no_index = refl
+
+case_has_no_last : has_form Case form.Last ≡ false
+case_has_no_last = refl
+
+first_frame_has_no_carry : has_form FirstFrame form.Carry ≡ false
+first_frame_has_no_carry = refl
+
+frame_has_carry : has_form Frame form.Carry ≡ true
+frame_has_carry = refl
+
 -- a wire with a name
 abbrev pub IsWired : Wire → Type 0
 IsWired None = ⊥
@@ -197,10 +210,18 @@ IsNodeAt inside (Node-F.Case selector lines branches) =
 IsNodeAt inside (Node-F.Sequence frames) = AreFrames inside frames
 IsNodeAt inside (Node-F.InPlace lines body) = All (IsLine InPlace) lines × inside body
 
+-- a diagram of such nodes
+abbrev pub HasNodes : (Node → Type 0) → Diagram → Type 0
+HasNodes P body = All P body.nodes
+
+-- no diagram
+abbrev pub Nowhere : Diagram → Type 0
+Nowhere body = ⊥
+
 -- A node of at most so many levels of structures. Where no level is left no diagram may stand inside.
 unfoldable pub IsNode : (levels : ℕ) → Node → Type 0
-IsNode zero n = IsNodeAt (λ body. ⊥) (out-Node n)
-IsNode (suc levels) n = IsNodeAt (λ body. All (IsNode levels) body.nodes) (out-Node n)
+IsNode zero n = IsNodeAt Nowhere (out-Node n)
+IsNode (suc levels) n = IsNodeAt (HasNodes (IsNode levels)) (out-Node n)
 
 -- ---- VIs and hierarchies
 
@@ -226,10 +247,14 @@ pub record CanBeListed (h : Hierarchy) : Type 0 where
 
 -- ---- laws
 
--- what bytes have can be listed
-abbrev pub ListedCanBe : Type 0
-ListedCanBe = (bytes : List ℕ) (h : Hierarchy) → IsBytes bytes → IsListing bytes h → CanBeListed h
+-- some bytes have this hierarchy
+abbrev pub IsListed : Hierarchy → Type 0
+IsListed h = (bytes : List ℕ) × IsBytes bytes × IsListing bytes h
 
--- what can be listed is had by its canonical text
-abbrev pub CanBeAreListed : Type 0
-CanBeAreListed = (h : Hierarchy) → CanBeListed h → IsListing (text_of h) h
+-- bytes have what can be listed, all of it and nothing else
+abbrev pub ListedExactly : Type 0
+ListedExactly = (h : Hierarchy) → IsListed h ↔ CanBeListed h
+
+-- what can be listed is had by its canonical text, which is bytes
+abbrev pub CanonicalLists : Type 0
+CanonicalLists = (h : Hierarchy) → CanBeListed h → IsBytes (text_of h) × IsListing (text_of h) h

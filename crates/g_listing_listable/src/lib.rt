@@ -2,15 +2,12 @@
 //! that.
 #![tactic(auto)]
 
-ghost use Rattle.g_listing_listable.specs.Listable.{ListedCanBe, CanBeAreListed};
+ghost use Rattle.g_listing_listable.specs.Listable.{CanonicalLists, ListedExactly};
 
-/// A hierarchy that some bytes have can be listed: its names are words and its numbers short; its types
-/// and literals are at most 8 deep and its structures 32; each border has lines of its own forms alone.
+/// Some bytes have a hierarchy exactly where it can be listed: its names are words, its numbers have at
+/// most 20 digits, its types and literals are at most 8 deep and its structures 32, and each border has
+/// lines of its own forms alone. Its canonical text is then such bytes.
 pub fn listed_laws()
-    ensures { ListedCanBe }
-{}
-
-/// Each hierarchy that can be listed is had by its canonical text.
-pub fn listable_laws()
-    ensures { CanBeAreListed }
+    ensures exactly { ListedExactly }
+    ensures canonical { CanonicalLists }
 {}
