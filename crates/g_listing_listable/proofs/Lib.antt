@@ -17,4 +17,5 @@ pub mod MakeListing
 pub mod WrittenTexts
 pub mod WrittenNodes
 pub mod ListedExactly
+pub mod Levels
 pub mod Examples
