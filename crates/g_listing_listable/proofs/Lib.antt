@@ -10,6 +10,12 @@ pub mod MakeTypes
 pub mod MakeLiterals
 pub mod MakeBorders
 pub mod MakeSelectors
+pub mod PlainNodes
 pub mod MakeNodes
 pub mod MakePanels
 pub mod MakeListing
+pub mod WrittenTexts
+pub mod WrittenNodes
+pub mod ListedExactly
+pub mod Levels
+pub mod Examples

@@ -12,25 +12,26 @@ use Rattle.g_diagram.specs.declared.hierarchy.Clones.TheVariants as clones
 use Rattle.g_diagram.specs.declared.hierarchy.System.{System}
 use Rattle.g_diagram.specs.declared.hierarchy.System.TheVariants as system
 use Rattle.g_diagram.specs.declared.hierarchy.Vi.{Vi}
+use Rattle.g_diagram.specs.declared.hierarchy.Hierarchy.{Hierarchy}
 use Rattle.g_diagram.specs.Text as text
 use Rattle.g_diagram.specs.Words.{clones_text, system_text}
 use Rattle.g_listing_grammar.specs.declared.HeaderWord.TheVariants as header
 use Rattle.g_listing_grammar.specs.declared.ClonesWord.TheVariants as clones_word
-use Rattle.g_listing_grammar.specs.Listing.{kind, system_or_eol, after_clones, vi_rest, vi_word, at_end, vi_or_end, vis, HasHierarchy}
+use Rattle.g_listing_grammar.specs.Listing.{kind, system_or_eol, after_clones, vi_rest, vi_word, at_end, vi_or_end, vis, HasHierarchy, IsListing}
 use Rattle.g_listing_laws.specs.Spelled.{IsPoolSize}
 use Rattle.g_print_laws.proofs.Lexing.{Full, Inside, finish, space}
 use Rattle.g_print_laws.proofs.NumberPieces.{number_piece}
 use Rattle.g_print_laws.proofs.Parts.{Rest, AreGood, a_word, a_feed}
 use Rattle.g_print_laws.proofs.BorderParts.{a_line}
 use Rattle.g_print_laws.proofs.PanelParts.{body_text, body_says}
-use Rattle.g_listing_listable.specs.Listable.{IsName, IsVi, CanBeAreListed}
+use Rattle.g_listing_listable.specs.Listable.{IsName, IsVi, CanBeListed}
 use Rattle.g_listing_listable.proofs.MakePhrases.{all_good}
 use Rattle.g_listing_listable.proofs.MakeTokens.{word_is, between_is}
 use Rattle.g_listing_listable.proofs.MakePanels.{makes_body}
 
 -- ---- the header
 
-system_named : (s : System) → IsName (system_text s)
+pub system_named : (s : System) → IsName (system_text s)
 system_named system.Ui = refl
 system_named system.Standard = refl
 system_named system.Instrument = refl
@@ -166,7 +167,7 @@ listing_made (x ∷ xs) some all =
       written = a_line 0 (codes "glisting") (word_is (codes "glisting") refl) (record { bound = refl; inside = space plain });
     }
 
-pub written : CanBeAreListed
+pub written : (h : Hierarchy) → CanBeListed h → IsListing (text.text_of h) h
 written h can =
     let m = listing_made h.vis can.some can.vis in
     subst (λ (ts : List Token). HasHierarchy ts h) (sym (m.written.lines 1)) m.has

@@ -2,7 +2,6 @@
 use Rattle.std.proofs.Common.{◌≡◌, ◌≤◌, ℕ, zero, suc, Bool, true, false, List, [], ◌∷◌, length, get_or, Option, Some, None, refl, sym, ap, ◌∙◌, cond, subst, arith, codes, inl, inr}
 use Rattle.std.specs.Prelude.{nat_le}
 use Rattle.std.specs.List.{All}
-use Rattle.std.proofs.lemmas.List.Elements.{All-head}
 use Rattle.g_grammar.specs.Grammar.{loop, or_else}
 use Rattle.g_types.specs.Names.{is_word}
 use Rattle.g_values.specs.declared.primitive.Primitive.{Primitive}
@@ -40,7 +39,8 @@ use Rattle.g_listing_grammar.specs.Listing.{panel_words}
 use Rattle.g_print_laws.proofs.Tables.{by_test}
 use Rattle.g_print_laws.proofs.PlainParts.{structure_word}
 use Rattle.g_print_laws.proofs.NodeParts.{until_word}
-use Rattle.g_listing_listable.specs.Listable.{IsName, IsElement, IsLine, HasElement, AreOperands, IsBranch, IsFrame, IsNodeAt, IsNode}
+use Rattle.g_listing_listable.specs.Listable.{IsName, IsElement, IsLine, HasElement, AreOperands, IsBranch, IsFrame, IsNodeAt, HasNodes, Nowhere, IsNode}
+use Rattle.g_listing_listable.proofs.PlainNodes.{is_plain, only_plain}
 use Rattle.g_listing_listable.proofs.MakePhrases.{Makes, Begins, Ended, makes_give, makes_bind, begins_bind, makes_loop, turn_of, makes_ended, makes_from_ended, first_one, second_one}
 use Rattle.g_listing_listable.proofs.MakeTokens.{word_is, makes_word, makes_name, makes_text, makes_eol, makes_element, makes_size, above, makes_last_wire, makes_to_wire, makes_across, makes_operands}
 use Rattle.g_listing_listable.proofs.MakeTypes.{makes_type}
@@ -58,9 +58,6 @@ Ends _ _ = Unit {0}
 pub record AreMade (P : Node → Type 0) (inside : Inside) : Type 0 where
   pub made : (ns : List Node) → All P ns → (u : Until) (b : Bool) → Ends u b → Makes (inside u) (ns, b)
 
-abbrev InBody : (Node → Type 0) → Diagram → Type 0
-InBody P body = All P body.nodes
-
 ended_made : {A : Type 0} (a : A) (more : Bool) → Makes (more_or_end a more) (turn_of more a)
 ended_made a true = makes_give (inl a)
 ended_made a false = makes_bind makes_eol (makes_give (inr a))
@@ -75,16 +72,16 @@ frame_ends true = tt
 frame_ends false = tt
 
 module _ (P : Node → Type 0) (inside : Inside) (made : AreMade P inside) where
-  branch_begun : (n : ℕ) (b : Branch) → IsBranch (InBody P) n b → (more : Bool) → Begins selector_first (branch_rest inside n) (turn_of more b)
+  branch_begun : (n : ℕ) (b : Branch) → IsBranch (HasNodes P) n b → (more : Bool) → Begins selector_first (branch_rest inside n) (turn_of more b)
   branch_begun n b is more =
       begins_bind (selectors_begun b.selectors is.some is.selectors)
       (makes_bind (makes_gives n b.gives is.count is.gives) (makes_bind (made.made b.body.nodes is.body until.WhenOrEnd more (when_ends more)) (ended_made b more)))
 
-  frame_made : (b : Border) (f : SequenceFrame) → IsFrame (InBody P) b f → (more : Bool) → Makes (frame_rest inside b) (turn_of more f)
+  frame_made : (b : Border) (f : SequenceFrame) → IsFrame (HasNodes P) b f → (more : Bool) → Makes (frame_rest inside b) (turn_of more f)
   frame_made b f is more =
       makes_bind (makes_lines_do b f.lines is.lines) (makes_bind makes_eol (makes_bind (made.made f.body.nodes is.body until.FrameOrEnd more (frame_ends more)) (ended_made f more)))
 
-  frame_begun : (f : SequenceFrame) → IsFrame (InBody P) border.Frame f → (more : Bool) → Begins eol (λ e. frame_rest inside border.Frame) (turn_of more f)
+  frame_begun : (f : SequenceFrame) → IsFrame (HasNodes P) border.Frame f → (more : Bool) → Begins eol (λ e. frame_rest inside border.Frame) (turn_of more f)
   frame_begun f is more = record { token = token.Eol; good = tt; first = tt; is = refl; rest = frame_made border.Frame f is more }
 
   body_made : (b : Border) (ls : List Tunnel) (ns : List Node) → All (IsLine b) ls → All P ns → Makes (lines_and_body inside b) (ls, ns)
@@ -93,24 +90,24 @@ module _ (P : Node → Type 0) (inside : Inside) (made : AreMade P inside) where
 
   -- ---- structures
 
-  branches_made : (n : ℕ) (bs : List Branch) → 1 ≤ length bs → All (IsBranch (InBody P) n) bs → Ended (loop selector_first (branch_rest inside n)) bs
+  branches_made : (n : ℕ) (bs : List Branch) → 1 ≤ length bs → All (IsBranch (HasNodes P) n) bs → Ended (loop selector_first (branch_rest inside n)) bs
   branches_made n [] some all = absurd (omega arith)
   branches_made n (b ∷ bs) some all = makes_ended selector_first (branch_rest inside n) b bs (λ k d lt. branch_begun n (get_or (b ∷ bs) k d) (all k d lt))
 
-  structure_for : (v : ℕ) (count iteration : Wire) (ls : List Tunnel) (body : Diagram) → IsNodeAt (InBody P) (Node-F.For count iteration ls body) → Makes (structure_rest v inside structure.For) (node.For count iteration ls body)
+  structure_for : (v : ℕ) (count iteration : Wire) (ls : List Tunnel) (body : Diagram) → IsNodeAt (HasNodes P) (Node-F.For count iteration ls body) → Makes (structure_rest v inside structure.For) (node.For count iteration ls body)
   structure_for v count iteration ls body is =
       makes_bind (makes_across count iteration is.0 is.1) (makes_bind (body_made border.For ls body.nodes is.2 is.3) (makes_give (node.For count iteration ls body)))
 
-  structure_while : (v : ℕ) (stop iteration : Wire) (ls : List Tunnel) (body : Diagram) → IsNodeAt (InBody P) (Node-F.While stop iteration ls body) → Makes (structure_rest v inside structure.While) (node.While stop iteration ls body)
+  structure_while : (v : ℕ) (stop iteration : Wire) (ls : List Tunnel) (body : Diagram) → IsNodeAt (HasNodes P) (Node-F.While stop iteration ls body) → Makes (structure_rest v inside structure.While) (node.While stop iteration ls body)
   structure_while v stop iteration ls body is =
       makes_bind (makes_across stop iteration is.0 is.1) (makes_bind (body_made border.While ls body.nodes is.2 is.3) (makes_give (node.While stop iteration ls body)))
 
-  structure_case : (v : ℕ) (w : Wire) (ls : List Tunnel) (bs : List Branch) → IsNodeAt (InBody P) (Node-F.Case w ls bs) → Makes (structure_rest v inside structure.Case) (node.Case w ls bs)
+  structure_case : (v : ℕ) (w : Wire) (ls : List Tunnel) (bs : List Branch) → IsNodeAt (HasNodes P) (Node-F.Case w ls bs) → Makes (structure_rest v inside structure.Case) (node.Case w ls bs)
   structure_case v w ls bs is =
       makes_bind (makes_last_wire w is.0)
       (makes_bind (makes_lines border.Case (codes "when") refl refl refl ls is.1) (makes_from_ended (λ bs. node.Case w ls bs) (branches_made (results ls) bs is.2 is.3)))
 
-  structure_sequence : (v : ℕ) (fs : List SequenceFrame) → IsNodeAt (InBody P) (Node-F.Sequence fs) → Makes (structure_rest v inside structure.Sequence) (node.Sequence fs)
+  structure_sequence : (v : ℕ) (fs : List SequenceFrame) → IsNodeAt (HasNodes P) (Node-F.Sequence fs) → Makes (structure_rest v inside structure.Sequence) (node.Sequence fs)
   structure_sequence v [] is = absurd is
   structure_sequence v (f ∷ []) is =
       makes_bind makes_eol
@@ -122,7 +119,7 @@ module _ (P : Node → Type 0) (inside : Inside) (made : AreMade P inside) where
       (makes_bind (makes_word (codes "frame") tt refl refl)
       (makes_bind (makes_bind makes_eol (frame_made border.FirstFrame f is.0 true)) (makes_bind further (makes_give (node.Sequence (f ∷ g ∷ gs))))))
 
-  structure_place : (v : ℕ) (ls : List Tunnel) (body : Diagram) → IsNodeAt (InBody P) (Node-F.InPlace ls body) → Makes (structure_rest v inside structure.InPlace) (node.InPlace ls body)
+  structure_place : (v : ℕ) (ls : List Tunnel) (body : Diagram) → IsNodeAt (HasNodes P) (Node-F.InPlace ls body) → Makes (structure_rest v inside structure.InPlace) (node.InPlace ls body)
   structure_place v ls body is = makes_bind makes_eol (makes_bind (body_made border.InPlace ls body.nodes is.0 is.1) (makes_give (node.InPlace ls body)))
 
 -- ---- how a node begins
@@ -152,7 +149,7 @@ unfolding is_none
 none_is None e = refl
 none_is (Some x) e = absurd cc
 
-operation_named : (u : List ℕ) (o : Operation) → operation_of u ≡ Some o → is_word u ≡ true
+pub operation_named : (u : List ℕ) (o : Operation) → operation_of u ≡ Some o → is_word u ≡ true
 unfolding operation_of
 operation_named = by_test (λ u o. is_word u) (words_of OPERATIONS) refl
 
@@ -199,7 +196,7 @@ set_named : operation_of (codes "set") ≡ Some operation.Set
 unfolding operation_of
 set_named = refl
 
-shared_named : (s : SharedOp) → operation_of (shared_row s).word ≡ Some (operation.Shared s)
+pub shared_named : (s : SharedOp) → operation_of (shared_row s).word ≡ Some (operation.Shared s)
 unfolding operation_of
 shared_named shared.Enqueue = refl
 shared_named shared.Dequeue = refl
@@ -226,16 +223,7 @@ apply_begun n p ins outs is are =
 
 -- ---- other nodes without diagrams
 
-is_plain : Node-F Node Branch Diagram SequenceFrame → Bool
-is_plain (Node-F.For count iteration ls body) = false
-is_plain (Node-F.While stop iteration ls body) = false
-is_plain (Node-F.Case w ls bs) = false
-is_plain (Node-F.Sequence fs) = false
-is_plain (Node-F.InPlace ls body) = false
-is_plain _ = true
-
 plain_begun : (n : ℕ) (inside : Diagram → Type 0) (y : Node-F Node Branch Diagram SequenceFrame) → is_plain y ≡ true → IsNodeAt inside y → NodeBegun n (roll-Node y)
-unfolding is_plain
 plain_begun n inside (Node-F.Const t l o) e is =
     let m = makes_bind (makes_type t is.0) (makes_bind (makes_literal l is.1) (makes_bind (makes_to_wire o is.2) (makes_give (node.Const t l o)))) in
     subst (NodeBegun n) (sym (node.rolls-Const t l o)) (record { name = codes "const"; named = refl; first = word_of.Plain plain.Const; is = refl; apart = refl; rest = plain_rest_made n plain.Const (node.Const t l o) m })
@@ -323,8 +311,7 @@ module _ (n : ℕ) (begun : (x : Node) → IsNode n x → NodeBegun n x) where
   inside_made : AreMade (IsNode n) (nodes 1 n)
   inside_made = record { made = λ ns all u b e. makes_loop ns b (λ k d lt. turn u (get_or ns k d) (all k d lt)) (last u b e) }
 
-  deep_begun : (y : Node-F Node Branch Diagram SequenceFrame) → IsNodeAt (InBody (IsNode n)) y → NodeBegun (suc n) (roll-Node y)
-  unfolding is_plain
+  deep_begun : (y : Node-F Node Branch Diagram SequenceFrame) → IsNodeAt (HasNodes (IsNode n)) y → NodeBegun (suc n) (roll-Node y)
   deep_begun (Node-F.For count iteration ls body) is =
       subst (NodeBegun (suc n)) (sym (node.rolls-For count iteration ls body))
       (structure_begun n structure.For (node.For count iteration ls body) (structure_for (IsNode n) (nodes 1 n) inside_made 1 count iteration ls body is))
@@ -337,25 +324,11 @@ module _ (n : ℕ) (begun : (x : Node) → IsNode n x → NodeBegun n x) where
       subst (NodeBegun (suc n)) (sym (node.rolls-Sequence fs)) (structure_begun n structure.Sequence (node.Sequence fs) (structure_sequence (IsNode n) (nodes 1 n) inside_made 1 fs is))
   deep_begun (Node-F.InPlace ls body) is =
       subst (NodeBegun (suc n)) (sym (node.rolls-InPlace ls body)) (structure_begun n structure.InPlace (node.InPlace ls body) (structure_place (IsNode n) (nodes 1 n) inside_made 1 ls body is))
-  deep_begun y is = plain_begun (suc n) (InBody (IsNode n)) y refl is
-
-abbrev Nowhere : Diagram → Type 0
-Nowhere body = ⊥
-
-shallow_begun : (y : Node-F Node Branch Diagram SequenceFrame) → IsNodeAt Nowhere y → NodeBegun zero (roll-Node y)
-unfolding is_plain
-shallow_begun (Node-F.For count iteration ls body) is = absurd is.3
-shallow_begun (Node-F.While stop iteration ls body) is = absurd is.3
-shallow_begun (Node-F.Case w ls []) is = absurd (let some = is.2 in omega arith)
-shallow_begun (Node-F.Case w ls (b ∷ bs)) is = absurd (All-head (IsBranch Nowhere (results ls)) b bs is.3).body
-shallow_begun (Node-F.Sequence []) is = absurd is
-shallow_begun (Node-F.Sequence (f ∷ fs)) is = absurd is.0.body
-shallow_begun (Node-F.InPlace ls body) is = absurd is.1
-shallow_begun y is = plain_begun zero Nowhere y refl is
+  deep_begun y is = plain_begun (suc n) (HasNodes (IsNode n)) y refl is
 
 pub node_begun : (n : ℕ) (x : Node) → IsNode n x → NodeBegun n x
 unfolding IsNode
-node_begun zero x is = subst (NodeBegun zero) (roll-out-Node x) (shallow_begun (out-Node x) is)
+node_begun zero x is = subst (NodeBegun zero) (roll-out-Node x) (plain_begun zero Nowhere (out-Node x) (only_plain (out-Node x) is) is)
 node_begun (suc n) x is = subst (NodeBegun (suc n)) (roll-out-Node x) (deep_begun n (node_begun n) (out-Node x) is)
 
 pub nodes_made : (n : ℕ) → AreMade (IsNode n) (nodes 1 n)

@@ -59,10 +59,10 @@ makes_others {A} {g} (suc n) (x ∷ xs) le all =
 abbrev Made : ℕ → Bool → Ty → Type 0
 Made n arrays t = IsRead n arrays t → Makes (types n arrays) t
 
-abbrev Written : List ℕ → TypeWord → Type 0
+abbrev pub Written : List ℕ → TypeWord → Type 0
 Written u w = IsName u × ((n : ℕ) (arrays : Bool) → type_first n arrays (token.Word u) ≡ Some w)
 
-rep_written : (r : Rep) → Written (rep_text r) (type.Number r)
+pub rep_written : (r : Rep) → Written (rep_text r) (type.Number r)
 rep_written I8 = (refl, λ n arrays. refl)
 rep_written I16 = (refl, λ n arrays. refl)
 rep_written I32 = (refl, λ n arrays. refl)

@@ -13,6 +13,7 @@ use Rattle.g_diagram.specs.declared.hierarchy.System.{System}
 use Rattle.g_diagram.specs.declared.hierarchy.System.TheVariants as system
 use Rattle.g_diagram.specs.declared.node.Node.{Node}
 use Rattle.g_diagram.specs.declared.hierarchy.Vi.{Vi}
+use Rattle.g_diagram.specs.declared.hierarchy.Hierarchy.{Hierarchy}
 use Rattle.g_tokens.specs.Tokens.{placed_tokens, tokens_of}
 use Rattle.g_listing_grammar.specs.declared.Until.TheVariants as until
 use Rattle.g_listing_grammar.specs.declared.PanelWord.{PanelWord}
@@ -24,13 +25,14 @@ use Rattle.g_listing_grammar.specs.declared.HeaderWord.{HeaderWord}
 use Rattle.g_listing_grammar.specs.declared.HeaderWord.TheVariants as header
 use Rattle.g_listing_grammar.specs.Words.{word_in}
 use Rattle.g_listing_grammar.specs.Nodes.{node_first}
-use Rattle.g_listing_grammar.specs.Listing.{Kind, system_end, after_clones, kind_rest, default_rest, control_rest, panel_words, panel_rest, end, Begin, body_first, body_item, nodes_after, vi_rest, vi_word, at_end, vi_or_end, vis, listing}
+use Rattle.g_listing_grammar.specs.Listing.{Kind, system_end, after_clones, kind_rest, default_rest, control_rest, panel_words, panel_rest, end, Begin, body_first, body_item, nodes_after, vi_rest, vi_word, at_end, vi_or_end, vis, listing, IsListing}
 use Rattle.g_listing_laws.specs.Spelled.{IsPoolSize}
 use Rattle.g_listing_laws.proofs.Gives.{Either, Ended}
 use Rattle.g_listing_laws.proofs.TypesGiven.{type_given}
 use Rattle.g_listing_laws.proofs.BordersGiven.{pool_known}
+use Rattle.g_print_laws.specs.Bytes.{IsBytes}
 use Rattle.g_print_laws.proofs.GoodTokens.{tokens_good}
-use Rattle.g_listing_listable.specs.Listable.{IsName, IsItem, IsNode, IsVi, CanBeListed, ListedCanBe}
+use Rattle.g_listing_listable.specs.Listable.{IsName, IsItem, IsNode, IsVi, CanBeListed}
 use Rattle.g_listing_listable.proofs.ReadPhrases.{Reads, Any, reads_give, reads_take, reads_bind, reads_after, reads_any, reads_loop}
 use Rattle.g_listing_listable.proofs.ReadTokens.{either_known, any_known, name_read, last_wire_read, to_wire_read}
 use Rattle.g_listing_listable.proofs.ReadLiterals.{literal_read}
@@ -125,5 +127,5 @@ vis_read v =
 listing_read : Reads CanBeListed listing
 listing_read = reads_after λ x. reads_after λ v. reads_after λ e. reads_bind (vis_read v) λ is so. reads_give (record { vis = is }) (record { some = so.0; vis = so.1 })
 
-pub listed : ListedCanBe
+pub listed : (bytes : List ℕ) (h : Hierarchy) → IsBytes bytes → IsListing bytes h → CanBeListed h
 listed bytes h good has = listing_read.each (tokens_of (placed_tokens bytes)) h [] (tokens_good bytes good) has

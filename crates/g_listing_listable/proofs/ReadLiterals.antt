@@ -74,7 +74,7 @@ word_known arrays token.Eol c g e = absurd cc
 word_known arrays token.End c g e = absurd cc
 word_known arrays token.Bad c g e = absurd cc
 
-when_above : {A : Type 0} (b : Bool) (x c : A) → cond b (Some x) None ≡ Some c → Some x ≡ Some c
+pub when_above : {A : Type 0} (b : Bool) (x c : A) → cond b (Some x) None ≡ Some c → Some x ≡ Some c
 when_above true x c e = e
 when_above false x c e = absurd cc
 

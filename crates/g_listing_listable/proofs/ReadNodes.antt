@@ -44,10 +44,10 @@ use Rattle.g_listing_laws.proofs.TypesGiven.{type_given}
 use Rattle.g_listing_laws.proofs.BordersGiven.{queue_known}
 use Rattle.g_print_laws.proofs.Parts.{IsGood, some_is}
 use Rattle.g_print_laws.proofs.Tables.{by_test, holds}
-use Rattle.g_listing_listable.specs.Listable.{IsWire, IsNumeral, IsSelector, IsLine, HasElement, IsBranch, IsFrame, AreFrames, IsNodeAt, IsNode}
+use Rattle.g_listing_listable.specs.Listable.{IsWire, IsNumeral, IsSelector, IsLine, HasElement, IsBranch, IsFrame, AreFrames, IsNodeAt, HasNodes, Nowhere, IsNode}
 use Rattle.g_listing_listable.proofs.ReadPhrases.{Reads, Any, reads_give, reads_take, reads_bind, reads_after, reads_any, reads_loop}
 use Rattle.g_listing_listable.proofs.ReadTokens.{either_known, any_known, name_read, text_read, number_read, field_read, last_wire_read, to_wire_read, across_read, operands_read, AreSo, exactly_read}
-use Rattle.g_listing_listable.proofs.ReadLiterals.{nothing_read, literal_read}
+use Rattle.g_listing_listable.proofs.ReadLiterals.{when_above, nothing_read, literal_read}
 use Rattle.g_listing_listable.proofs.ReadBorders.{lines_read}
 
 -- ---- selectors
@@ -111,9 +111,6 @@ gives_read (suc n) = reads_after λ x. reads_bind (exactly_read (suc n)) λ ws i
 
 -- ---- diagrams inside a structure
 
-abbrev InBody : (Node → Type 0) → Diagram → Type 0
-InBody P body = All P body.nodes
-
 abbrev pub AreRead : (Node → Type 0) → Inside → Type 0
 AreRead P inside = (u : Until) → Reads (Ended P Any) (inside u)
 
@@ -122,27 +119,27 @@ ended_read P a is true = reads_give (inl a) is
 ended_read P a is false = reads_after λ e. reads_give (inr a) is
 
 module _ (P : Node → Type 0) (inside : Inside) (given : AreRead P inside) where
-  branch_read : (n : ℕ) (c : SelectorFirst) → IsFirst c → Reads (Either (IsBranch (InBody P) n) (IsBranch (InBody P) n)) (branch_rest inside n c)
+  branch_read : (n : ℕ) (c : SelectorFirst) → IsFirst c → Reads (Either (IsBranch (HasNodes P) n) (IsBranch (HasNodes P) n)) (branch_rest inside n c)
   branch_read n c is =
       reads_bind (selectors_read c is) λ ss so.
       reads_bind (gives_read n) λ ws also.
       reads_bind (given until.WhenOrEnd) λ ns e.
       let b : Branch = record { selectors = ss; gives = ws; body = record { nodes = ns.0 } } in
-      ended_read (IsBranch (InBody P) n) b (record { some = so.0; selectors = so.1; count = also.0; gives = also.1; body = e.all }) ns.1
+      ended_read (IsBranch (HasNodes P) n) b (record { some = so.0; selectors = so.1; count = also.0; gives = also.1; body = e.all }) ns.1
 
-  frame_read : (b : Border) → Reads (Either (IsFrame (InBody P) b) (IsFrame (InBody P) b)) (frame_rest inside b)
+  frame_read : (b : Border) → Reads (Either (IsFrame (HasNodes P) b) (IsFrame (HasNodes P) b)) (frame_rest inside b)
   frame_read b =
       reads_bind (lines_read b (codes "do")) λ lines l.
       reads_after λ end.
       reads_bind (given until.FrameOrEnd) λ ns e.
       let f : SequenceFrame = record { lines = lines.0; body = record { nodes = ns.0 } } in
-      ended_read (IsFrame (InBody P) b) f (record { lines = l.all; body = e.all }) ns.1
+      ended_read (IsFrame (HasNodes P) b) f (record { lines = l.all; body = e.all }) ns.1
 
-  frames_read : (f : SequenceFrame ⊎ SequenceFrame) → Either (IsFrame (InBody P) border.FirstFrame) (IsFrame (InBody P) border.FirstFrame) f → Reads (AreFrames (InBody P)) (further_frames inside f)
+  frames_read : (f : SequenceFrame ⊎ SequenceFrame) → Either (IsFrame (HasNodes P) border.FirstFrame) (IsFrame (HasNodes P) border.FirstFrame) f → Reads (AreFrames (HasNodes P)) (further_frames inside f)
   frames_read (inl f) is =
-      reads_bind (reads_loop Any (IsFrame (InBody P) border.Frame) (IsFrame (InBody P) border.Frame) eol (λ e. frame_rest inside border.Frame) (any_known eol) (λ e k. frame_read border.Frame)) λ fs e.
-      reads_give (f ∷ and_last fs) (is, and_last_all (IsFrame (InBody P) border.Frame) fs e)
-  frames_read (inr f) is = reads_give (f ∷ []) (is, All-nil (IsFrame (InBody P) border.Frame))
+      reads_bind (reads_loop Any (IsFrame (HasNodes P) border.Frame) (IsFrame (HasNodes P) border.Frame) eol (λ e. frame_rest inside border.Frame) (any_known eol) (λ e k. frame_read border.Frame)) λ fs e.
+      reads_give (f ∷ and_last fs) (is, and_last_all (IsFrame (HasNodes P) border.Frame) fs e)
+  frames_read (inr f) is = reads_give (f ∷ []) (is, All-nil (IsFrame (HasNodes P) border.Frame))
 
   abbrev HasBody : Border → List Tunnel × List Node → Type 0
   HasBody b x = All (IsLine b) x.0 × All P x.1
@@ -160,8 +157,8 @@ module _ (P : Node → Type 0) (inside : Inside) (given : AreRead P inside) wher
 -- at every level
 plain_is : (n : ℕ) (x : Node) (y : Node-F Node Branch Diagram SequenceFrame) → out-Node x ≡ y → ((inside : Diagram → Type 0) → IsNodeAt inside y) → IsNode n x
 unfolding IsNode
-plain_is zero x y e is = subst (IsNodeAt (λ body. ⊥)) (sym e) (is (λ body. ⊥))
-plain_is (suc n) x y e is = subst (IsNodeAt (InBody (IsNode n))) (sym e) (is (InBody (IsNode n)))
+plain_is zero x y e is = subst (IsNodeAt Nowhere) (sym e) (is Nowhere)
+plain_is (suc n) x y e is = subst (IsNodeAt (HasNodes (IsNode n))) (sym e) (is (HasNodes (IsNode n)))
 
 abbrev no_element : Option ℕ → Bool
 no_element None = true
@@ -219,9 +216,9 @@ plain_read n plain.Call k =
 
 -- ---- structures
 
-deeper_is : (n : ℕ) (x : Node) (y : Node-F Node Branch Diagram SequenceFrame) → out-Node x ≡ y → IsNodeAt (InBody (IsNode n)) y → IsNode (suc n) x
+deeper_is : (n : ℕ) (x : Node) (y : Node-F Node Branch Diagram SequenceFrame) → out-Node x ≡ y → IsNodeAt (HasNodes (IsNode n)) y → IsNode (suc n) x
 unfolding IsNode
-deeper_is n x y e is = subst (IsNodeAt (InBody (IsNode n))) (sym e) is
+deeper_is n x y e is = subst (IsNodeAt (HasNodes (IsNode n))) (sym e) is
 
 some_and_last : {A : Type 0} (x : List A × A) → 1 ≤ length (and_last x)
 some_and_last x = omega (arith, length-append x.0 (x.1 ∷ []))
@@ -241,7 +238,7 @@ structure_read v n inside given structure.Case =
     reads_bind last_wire_read λ w is.
     reads_bind (lines_read border.Case (codes "when")) λ lines l.
     let count : ℕ = results lines.0 in
-    let P : Branch → Type 0 = IsBranch (InBody (IsNode n)) count in
+    let P : Branch → Type 0 = IsBranch (HasNodes (IsNode n)) count in
     reads_bind (reads_loop IsFirst P P selector_first (branch_rest inside count) selector_known (branch_read (IsNode n) inside given count)) λ bs e.
     reads_give (node.Case w lines.0 (and_last bs))
     (deeper_is n (node.Case w lines.0 (and_last bs)) (Node-F.Case w lines.0 (and_last bs)) (node.outs-Case w lines.0 (and_last bs)) (is, l.all, some_and_last bs, and_last_all P bs e))
@@ -278,11 +275,7 @@ named_apart v u c e = go (lookup node_words u) (operation_of u) refl refl e
 fits : (n : ℕ) (o : Option NodeWord) (c : NodeWord) → fitting_node n o ≡ Some c → o ≡ Some c
 fits n None c e = absurd cc
 fits n (Some (word_of.Plain w)) c e = e
-fits n (Some (word_of.Structure s)) c e = go (is_above n) e
-  where
-    go : (b : Bool) → cond b (Some (word_of.Structure s)) None ≡ Some c → Some (word_of.Structure s) ≡ Some c
-    go true f = f
-    go false f = absurd cc
+fits n (Some (word_of.Structure s)) c e = when_above (is_above n) (word_of.Structure s) c e
 
 pub first_known : (v n : ℕ) (t : Token) (c : NodeWord) → IsGood t → node_first v n t ≡ Some c → Apart c
 first_known v n (token.Word u) c g e = named_apart v u c (fits n (node_named v u) c e)

@@ -1,6 +1,6 @@
 -- What a hierarchy is that a listing can have: all that the grammar of listings asks of names, numbers, texts, types, literals, lines and
 -- levels, said of the hierarchy itself.
-use Rattle.std.specs.Prelude.{◌≡◌, ◌≤◌, ◌<◌, ◌^◌, ◌||◌, ℕ, zero, suc, ℤ, pos, negsuc, ⊤, Bool, true, false, List, [], ◌∷◌, length, Option, Some, None}
+use Rattle.std.specs.Prelude.{◌≡◌, ◌≤◌, ◌<◌, ◌^◌, ◌↔◌, ◌||◌, ℕ, zero, suc, ℤ, pos, negsuc, ⊤, Bool, true, false, List, [], ◌∷◌, length, Option, Some, None, refl}
 use Rattle.std.specs.List.{All}
 use Rattle.g_types.specs.Names.{is_word}
 use Rattle.g_values.specs.Spelled.{IsSpelled}
@@ -30,7 +30,7 @@ use Rattle.g_listing_grammar.specs.declared.LineWord.{LineWord}
 use Rattle.g_listing_grammar.specs.declared.LineWord.TheVariants as form
 use Rattle.g_listing_grammar.specs.Nodes.{results}
 use Rattle.g_listing_grammar.specs.Listing.{IsListing}
-use Rattle.g_listing_laws.specs.Spelled.{IsPoolSize, IsQueueSize}
+use Rattle.g_listing_laws.specs.Spelled.{IsPoolSize, IsQueueSize, IsWritable}
 use Rattle.g_print_laws.specs.Bytes.{IsBytes}
 
 -- ---- names, wires and numbers
@@ -55,11 +55,12 @@ IsElement k = k ≤ 63
 
 -- ---- literals
 
+-- an array
 abbrev pub is_array_at : Lit-F Lit → Bool
 is_array_at (Lit-F.Array items) = true
 is_array_at _ = false
 
--- One level of a literal, in which such literals stand: numbers are short and texts are bytes, an array has no array for an item, and a
+-- One level of a literal, in which such literals stand: its number is short or its text is bytes, an array has no array for an item, and a
 -- cluster has 1 to 64 parts.
 abbrev pub IsLiteralAt : (inside : Lit → Type 0) → Lit-F Lit → Type 0
 IsLiteralAt inside (Lit-F.Number n) = IsNumeral n
@@ -90,19 +91,23 @@ form_of (line.Ref reference inner next same code) = form.Ref
 form_of (line.Element array index inner next outer) = form.Element
 form_of (line.Field field cluster inner next outer) = form.Field
 
+-- the border of a `for` or a `while`
 abbrev pub is_loop : Border → Bool
 is_loop For = true
 is_loop While = true
 is_loop _ = false
 
+-- that of a case
 abbrev pub is_case : Border → Bool
 is_case Case = true
 is_case _ = false
 
+-- that of an in-place structure
 abbrev pub is_place : Border → Bool
 is_place InPlace = true
 is_place _ = false
 
+-- that of a frame of a sequence, the first one or another
 abbrev pub is_frame : Border → Bool
 is_frame FirstFrame = true
 is_frame Frame = true
@@ -124,6 +129,19 @@ has_form b form.Ref = is_place b
 has_form b form.Element = is_place b
 has_form b form.Field = is_place b
 
+-- examples
+while_has_no_index : has_form While form.Index ≡ false
+while_has_no_index = refl
+
+case_has_no_last : has_form Case form.Last ≡ false
+case_has_no_last = refl
+
+first_frame_has_no_carry : has_form FirstFrame form.Carry ≡ false
+first_frame_has_no_carry = refl
+
+frame_has_carry : has_form Frame form.Carry ≡ true
+frame_has_carry = refl
+
 -- a wire with a name
 abbrev pub IsWired : Wire → Type 0
 IsWired None = ⊥
@@ -143,12 +161,14 @@ HasOperands (line.Ref reference inner next same code) = IsWire reference × IsWi
 HasOperands (line.Element array index inner next outer) = IsWire array × IsWire index × IsWire inner × IsWire next × IsWire outer
 HasOperands (line.Field field cluster inner next outer) = IsElement field × IsWire cluster × IsWire inner × IsWire next × IsWire outer
 
+-- a line of one of the forms that the border has
 pub record IsLine (b : Border) (l : Tunnel) : Type 0 where
   pub form : has_form b (form_of l) ≡ true
   pub operands : HasOperands l
 
 -- ---- nodes
 
+-- the numbers of a selector are short, and its text is bytes
 abbrev pub IsSelector : Selector → Type 0
 IsSelector (selector.Number n) = IsNumeral n
 IsSelector (selector.Range low high) = IsNumeral low × IsNumeral high
@@ -156,7 +176,7 @@ IsSelector (selector.Truth b) = ⊤
 IsSelector (selector.Text bytes) = IsBytes bytes
 IsSelector selector.Default = ⊤
 
--- a branch has a selector, and gives as many values as its case has results
+-- a branch has a selector, and gives as many wires as its case has results
 pub record IsBranch (inside : Diagram → Type 0) (results : ℕ) (b : Branch) : Type 0 where
   pub some : 1 ≤ length b.selectors
   pub selectors : All IsSelector b.selectors
@@ -164,6 +184,7 @@ pub record IsBranch (inside : Diagram → Type 0) (results : ℕ) (b : Branch) :
   pub gives : All IsWire b.gives
   pub body : inside b.body
 
+-- a frame has lines of its border
 pub record IsFrame (inside : Diagram → Type 0) (b : Border) (f : SequenceFrame) : Type 0 where
   pub lines : All (IsLine b) f.lines
   pub body : inside f.body
@@ -178,6 +199,7 @@ abbrev pub HasElement : Option ℕ → Type 0
 HasElement None = ⊤
 HasElement (Some k) = IsElement k
 
+-- what stands before and after the arrow of an operation or a call
 abbrev pub AreOperands : (inputs outputs : List Wire) → Type 0
 AreOperands inputs outputs = All IsWire inputs × All IsWire outputs
 
@@ -197,17 +219,27 @@ IsNodeAt inside (Node-F.Case selector lines branches) =
 IsNodeAt inside (Node-F.Sequence frames) = AreFrames inside frames
 IsNodeAt inside (Node-F.InPlace lines body) = All (IsLine InPlace) lines × inside body
 
+-- a diagram of such nodes
+abbrev pub HasNodes : (Node → Type 0) → Diagram → Type 0
+HasNodes P body = All P body.nodes
+
+-- no diagram
+abbrev pub Nowhere : Diagram → Type 0
+Nowhere body = ⊥
+
 -- A node of at most so many levels of structures. Where no level is left no diagram may stand inside.
 unfoldable pub IsNode : (levels : ℕ) → Node → Type 0
-IsNode zero n = IsNodeAt (λ body. ⊥) (out-Node n)
-IsNode (suc levels) n = IsNodeAt (λ body. All (IsNode levels) body.nodes) (out-Node n)
+IsNode zero n = IsNodeAt Nowhere (out-Node n)
+IsNode (suc levels) n = IsNodeAt (HasNodes (IsNode levels)) (out-Node n)
 
 -- ---- VIs and hierarchies
 
+-- the default of a control, where it has one
 abbrev pub IsDefault : Option Lit → Type 0
 IsDefault None = ⊤
 IsDefault (Some l) = IsLiteral 8 l
 
+-- a control or an indicator
 abbrev pub IsItem : PanelItem → Type 0
 IsItem (Control name t required default out) = IsName name × IsSpelled t × IsDefault default × IsWire out
 IsItem (Indicator name t input) = IsName name × IsSpelled t × IsWire input
@@ -219,17 +251,32 @@ pub record IsVi (vi : Vi) : Type 0 where
   pub panel : All IsItem vi.panel
   pub top : All (IsNode 32) vi.top.nodes
 
--- a listing can have this hierarchy
+-- A listing can have this hierarchy: it has a VI, and each VI is such.
 pub record CanBeListed (h : Hierarchy) : Type 0 where
   pub some : 1 ≤ length h.vis
   pub vis : All IsVi h.vis
 
 -- ---- laws
 
--- what bytes have can be listed
-abbrev pub ListedCanBe : Type 0
-ListedCanBe = (bytes : List ℕ) (h : Hierarchy) → IsBytes bytes → IsListing bytes h → CanBeListed h
+-- some bytes have this hierarchy
+abbrev pub IsListed : Hierarchy → Type 0
+IsListed h = (bytes : List ℕ) × IsBytes bytes × IsListing bytes h
 
--- what can be listed is had by its canonical text
-abbrev pub CanBeAreListed : Type 0
-CanBeAreListed = (h : Hierarchy) → CanBeListed h → IsListing (text_of h) h
+-- bytes have what can be listed, all of it and nothing else
+abbrev pub ListedExactly : Type 0
+ListedExactly = (h : Hierarchy) → IsListed h ↔ CanBeListed h
+
+-- what can be listed is had by its canonical text, which is bytes
+abbrev pub CanonicalLists : Type 0
+CanonicalLists = (h : Hierarchy) → CanBeListed h → IsBytes (text_of h) × IsListing (text_of h) h
+
+-- it is writable
+abbrev pub WritableToo : Type 0
+WritableToo = (h : Hierarchy) → CanBeListed h → IsWritable h
+
+-- what has at most so many levels has at most one more
+abbrev pub DeeperLiterals : Type 0
+DeeperLiterals = (n : ℕ) (l : Lit) → IsLiteral n l → IsLiteral (suc n) l
+
+abbrev pub DeeperNodes : Type 0
+DeeperNodes = (n : ℕ) (x : Node) → IsNode n x → IsNode (suc n) x

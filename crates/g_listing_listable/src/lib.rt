@@ -2,15 +2,20 @@
 //! that.
 #![tactic(auto)]
 
-ghost use Rattle.g_listing_listable.specs.Listable.{ListedCanBe, CanBeAreListed};
+ghost use Rattle.g_listing_listable.specs.Listable.{CanonicalLists, DeeperLiterals, DeeperNodes, ListedExactly, WritableToo};
 
-/// A hierarchy that some bytes have can be listed: its names are words and its numbers short; its types
-/// and literals are at most 8 deep and its structures 32; each border has lines of its own forms alone.
+/// Some bytes have a hierarchy exactly where it can be listed: its names are words, its numbers have at
+/// most 20 digits, its types and literals are at most 8 deep and its structures 32, and each border has
+/// lines of its own forms alone. Its canonical text is then such bytes, and it is writable.
 pub fn listed_laws()
-    ensures { ListedCanBe }
+    ensures exactly { ListedExactly }
+    ensures canonical { CanonicalLists }
+    ensures writable { WritableToo }
 {}
 
-/// Each hierarchy that can be listed is had by its canonical text.
-pub fn listable_laws()
-    ensures { CanBeAreListed }
+/// A literal or a node of at most so many levels is one of at most one more. So what stands inside a
+/// structure may stand outside it.
+pub fn level_laws()
+    ensures literals { DeeperLiterals }
+    ensures nodes { DeeperNodes }
 {}
