@@ -1,25 +1,23 @@
 -- Bytes cut at a token: those before it have the tokens before it, whatever lines come below or whatever comes after a space.
-use Rattle.std.proofs.Common.{◌≡◌, ℕ, zero, suc, ◌+◌, ◌-◌, Bool, true, false, ◌&&◌, not, List, [], ◌∷◌, ◌++◌, length, take, drop, map, Option, Some, None, cond, refl, sym, ap, ◌∙◌, subst, arith, append_assoc, inl, inr, ◌⊎◌}
-use Rattle.std.specs.Prelude.{◌==◌, nat_le, slice_index}
+use Rattle.std.proofs.Common.{◌≡◌, ℕ, zero, suc, ◌+◌, ◌-◌, Bool, true, false, ◌&&◌, not, List, [], ◌∷◌, ◌++◌, length, take, drop, cond, refl, sym, ap, ◌∙◌, subst, arith, append_assoc, inl, inr, ◌⊎◌}
+use Rattle.std.specs.Prelude.{◌==◌, slice_index}
 use Rattle.std.specs.List.{list_all}
-use Rattle.std.specs.Str.{bytes_eq}
 use Rattle.std.proofs.lemmas.Bool.{and_parts, eqb-true}
 use Rattle.std.proofs.lemmas.List.{append-nil, map-append, take-append-drop}
 use Rattle.std.proofs.lemmas.List.Folds.{list_all-append}
 use Rattle.g_tokens.specs.declared.token.Token.{Token}
 use Rattle.g_tokens.specs.declared.token.Token.TheVariants as token
-use Rattle.g_tokens.specs.declared.token.Mark.{Mark}
 use Rattle.g_tokens.specs.declared.token.Spot.{Spot}
 use Rattle.g_tokens.specs.declared.token.Lexeme.{Lexeme}
-use Rattle.g_tokens.specs.Tokens.{is_word_byte, begins, lexemes, line_rest, line_tokens, content, lines, lines_tokens, placed, placed_tokens, tokens_of}
+use Rattle.g_tokens.specs.Tokens.{is_word_byte, lexemes, line_rest, line_tokens, content, lines, lines_tokens, placed, placed_tokens, tokens_of}
 use Rattle.g_tokens.proofs.Gaps.{next_line, line_break, line_grows}
 use Rattle.g_print_laws.proofs.Lexing.{Full, Inside, is_inner, kinds, both, not_at, space, starts, bound_line}
-use Rattle.g_listing_completions.specs.Completion.{next_place, place_after, first_place}
+use Rattle.g_listing_completions.specs.Completion.{place_after}
 use Rattle.g_listing_completions.proofs.Places.{place_both}
 use Rattle.g_listing_completions.proofs.Forms.{State, fresh, midway, step, run, run_both}
 use Rattle.g_listing_completions.proofs.BorderForms.{going}
 use Rattle.g_listing_completions.proofs.Lexical.{is_clean, is_plain, plain_lexemes}
-use Rattle.g_listing_completions.proofs.Cuts.{Fore, place, cut_line}
+use Rattle.g_listing_completions.proofs.Cuts.{Fore, place, head_of, tail_of, cut_line}
 
 -- ---- bytes put below or behind
 
@@ -142,12 +140,6 @@ Part n end all before spot = (xs ys : List Lexeme) × (all ≡ xs ++ ys) × (tok
 no_item : {A : Type 0} (a b : List A) (x : A) → [] ≡ a ++ x ∷ b → ⊥
 no_item [] b x e = cc
 no_item (y ∷ a) b x e = cc
-
-head_of : {A : Type 0} (x y : A) (xs ys : List A) → x ∷ xs ≡ y ∷ ys → x ≡ y
-head_of x y xs ys e = cc
-
-tail_of : {A : Type 0} (x y : A) (xs ys : List A) → x ∷ xs ≡ y ∷ ys → xs ≡ ys
-tail_of x y xs ys e = cc
 
 abbrev kind_of : Token × Spot → Token
 kind_of x = x.0
@@ -336,7 +328,7 @@ more_lines b rest ih begun n h before after x e clean = go (b == 10) refl
       | inr q ↦
           let both-are : tokens_of before ≡ tokens_of (line_tokens n (lexed begun)) ++ tokens_of q.0 = ap tokens_of q.1 ∙ map-append kind_of (line_tokens n (lexed begun)) q.0 in
           let c = and_parts (list_all is_clean (tokens_of (line_tokens n (lexed begun)))) (list_all is_clean (tokens_of q.0))
-                  (sym (list_all-append is_clean (tokens_of (line_tokens n (lexed begun))) (tokens_of q.0)) ∙ ap (list_all is_clean) (sym both-are) ∙ clean) in
+          (sym (list_all-append is_clean (tokens_of (line_tokens n (lexed begun))) (tokens_of q.0)) ∙ ap (list_all is_clean) (sym both-are) ∙ clean) in
           subst (λ (ts : List Token). Split n (begun ++ b ∷ rest) ts x.1) (sym both-are)
           (later_line n begun rest b (tokens_of (line_tokens n (lexed begun))) (tokens_of q.0) x.1 is h (whole_line n begun (line_tokens n (lexed begun)) refl c.0) (ih [] (suc n) refl q.0 after x q.2 c.1))
     ]

@@ -1,5 +1,5 @@
 -- A line cut at a token: the bytes before it have the tokens before it, whatever comes after a space.
-use Rattle.std.proofs.Common.{◌≡◌, ℕ, zero, suc, ◌+◌, ◌-◌, ◌<◌, ◌≤◌, Bool, true, false, ◌&&◌, List, [], ◌∷◌, ◌++◌, length, take, drop, Option, Some, None, refl, sym, ap, ◌∙◌, subst, arith, append_assoc}
+use Rattle.std.proofs.Common.{◌≡◌, ℕ, zero, suc, ◌+◌, ◌-◌, ◌≤◌, Bool, true, false, List, [], ◌∷◌, ◌++◌, length, take, drop, Some, None, refl, sym, ap, ◌∙◌, subst, arith, append_assoc}
 use Rattle.std.specs.Prelude.{◌==◌}
 use Rattle.std.specs.List.{list_all}
 use Rattle.std.proofs.Math.Seq.{drop-append_seam, take-append_seam}
@@ -9,7 +9,7 @@ use Rattle.std.proofs.lemmas.List.Folds.{list_all-append}
 use Rattle.g_tokens.specs.declared.token.Token.{Token}
 use Rattle.g_tokens.specs.declared.token.Token.TheVariants as token
 use Rattle.g_tokens.specs.declared.token.Lexeme.{Lexeme}
-use Rattle.g_tokens.specs.Tokens.{is_space, is_word_byte, begins, whole, front, at_gap, lexemes, IsFront}
+use Rattle.g_tokens.specs.Tokens.{is_space, is_word_byte, begins, whole, front, lexemes}
 use Rattle.g_tokens.proofs.Gaps.{over_space, at_comment, at_token}
 use Rattle.g_print_laws.proofs.Lexing.{is_inner, kinds, both, not_at}
 use Rattle.g_listing_completions.proofs.Lexical.{is_plain}
@@ -109,10 +109,10 @@ first_is : (at b : ℕ) (w : List ℕ) → is_space b ≡ false → (b == 35) �
 unfolding lexemes
 first_is at b w h k = rw (h, k) refl
 
-head_of : {A : Type 0} (x y : A) (xs ys : List A) → x ∷ xs ≡ y ∷ ys → x ≡ y
+pub head_of : {A : Type 0} (x y : A) (xs ys : List A) → x ∷ xs ≡ y ∷ ys → x ≡ y
 head_of x y xs ys e = cc
 
-tail_of : {A : Type 0} (x y : A) (xs ys : List A) → x ∷ xs ≡ y ∷ ys → xs ≡ ys
+pub tail_of : {A : Type 0} (x y : A) (xs ys : List A) → x ∷ xs ≡ y ∷ ys → xs ≡ ys
 tail_of x y xs ys e = cc
 
 not_bad : (t : Token) → is_plain t ≡ true → t ≡ token.Bad → ⊥

@@ -14,7 +14,7 @@ use Rattle.g_tokens.specs.declared.texts.Escape.{Escape}
 use Rattle.g_tokens.specs.declared.texts.Escape.TheVariants as escape
 use Rattle.g_tokens.specs.declared.texts.Step.{Step}
 use Rattle.g_tokens.specs.declared.texts.Step.TheVariants as step
-use Rattle.g_tokens.specs.Tokens.{is_letter, is_digit, is_word_byte, begins, is_run, word_of, word, digits_of, is_numeral, numeral, number, in_text, first_digit, two_digits, hex, byte_before, closed, after_step, characters, as_text, text, mark_in, mark_texts, or_none, whole, longer_or, longest, front, IsLongest, IsFront}
+use Rattle.g_tokens.specs.Tokens.{is_letter, is_digit, is_word_byte, begins, word_of, word, is_numeral, numeral, number, in_text, two_digits, hex, byte_before, closed, after_step, characters, as_text, text, mark_in, mark_texts, or_none, whole, longer_or, longest, front, IsFront}
 use Rattle.g_tokens.proofs.Fronts.{front_is}
 use Rattle.g_tokens.proofs.WordRuns.{mark_none}
 use Rattle.g_print_laws.proofs.Lexing.{is_inner, both, not_at, take_front}
@@ -271,21 +271,46 @@ alone : (v : List ℕ) → list_all is_inner v ≡ true → ((x : ℕ) (y : List
 alone v inner none = record { next = λ x y e. absurd (not_both (sym e ∙ ap is_token (none x y))); inner = inner }
 
 marks_bounded : Each Bounded mark_texts
-marks_bounded =
-    (alone (45 ∷ 62 ∷ []) refl (λ x y. refl),
-    (alone (60 ∷ 45 ∷ []) refl (λ x y. refl),
-    (alone (124 ∷ []) refl (λ x y. refl),
-    (alone (61 ∷ []) refl (λ x y. refl),
-    (alone (44 ∷ []) refl (λ x y. refl),
-    (alone (46 ∷ 46 ∷ []) refl (λ x y. refl),
-    (alone (91 ∷ []) refl (λ x y. refl),
-    (alone (93 ∷ []) refl (λ x y. refl),
-    (alone (123 ∷ []) refl (λ x y. refl),
-    (alone (125 ∷ []) refl (λ x y. refl),
-    (alone (40 ∷ []) refl (λ x y. refl),
-    (alone (41 ∷ []) refl (λ x y. refl),
-    (alone (95 ∷ []) refl (λ x y. refl),
-    tt)))))))))))))
+marks_bounded = (
+  alone (45 ∷ 62 ∷ []) refl (λ x y. refl),
+  (
+    alone (60 ∷ 45 ∷ []) refl (λ x y. refl),
+    (
+      alone (124 ∷ []) refl (λ x y. refl),
+      (
+        alone (61 ∷ []) refl (λ x y. refl),
+        (
+          alone (44 ∷ []) refl (λ x y. refl),
+          (
+            alone (46 ∷ 46 ∷ []) refl (λ x y. refl),
+            (
+              alone (91 ∷ []) refl (λ x y. refl),
+              (
+                alone (93 ∷ []) refl (λ x y. refl),
+                (
+                  alone (123 ∷ []) refl (λ x y. refl),
+                  (
+                    alone (125 ∷ []) refl (λ x y. refl),
+                    (
+                      alone (40 ∷ []) refl (λ x y. refl),
+                      (
+                        alone (41 ∷ []) refl (λ x y. refl),
+                        (
+                          alone (95 ∷ []) refl (λ x y. refl),
+                          tt,
+                        ),
+                      ),
+                    ),
+                  ),
+                ),
+              ),
+            ),
+          ),
+        ),
+      ),
+    ),
+  ),
+)
 
 pub bounded : (v : List ℕ) (t : Token) → whole v ≡ Some t → Bounded v
 bounded v t e = go (word v) refl (number v) refl (text v) refl (mark_in mark_texts v) refl e

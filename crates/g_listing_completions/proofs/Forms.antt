@@ -1,6 +1,6 @@
 -- Forms of a listing: where a token is refused, tokens that bytes can have complete what was read; and each form begins and ends at the start
 -- of a line or inside one.
-use Rattle.std.proofs.Common.{◌≡◌, ℕ, zero, suc, true, List, [], ◌∷◌, ◌++◌, Option, Some, None, refl, sym, ap, ◌∙◌, inl, inr, ◌⊎◌, append_assoc}
+use Rattle.std.proofs.Common.{◌≡◌, ℕ, zero, suc, List, [], ◌∷◌, ◌++◌, Option, Some, None, refl, sym, ap, ◌∙◌, inl, inr, ◌⊎◌, append_assoc}
 use Rattle.g_grammar.specs.Grammar.{Grammar, give, take, bind, loop, first, tail, Phrases, Has, exactly, or_else, ◌>>=◌}
 use Rattle.g_grammar.proofs.Laws.{first_is}
 use Rattle.g_grammar.proofs.Live.{Live as LiveOver, live_take, live_choice, live_loop, live_bind, live_give, either_left, either_right}

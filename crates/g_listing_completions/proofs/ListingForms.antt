@@ -30,7 +30,6 @@ use Rattle.g_print_laws.proofs.Parts.{some_is}
 use Rattle.g_print_laws.proofs.Tables.{holds}
 use Rattle.g_listing_completions.proofs.Good.{good_word}
 use Rattle.g_listing_completions.proofs.Forms.{State, fresh, midway, done, sides, Steps, Form, form_give, form_take, form_bind, form_loop, form_in, form_first, at_start, either_steps}
-use Rattle.g_listing_completions.proofs.TypeForms.{Inline}
 use Rattle.g_listing_completions.proofs.BorderForms.{Ending, name_form, eol_form, type_form, literal_form, last_wire_form, to_wire_form}
 use Rattle.g_listing_completions.proofs.NodeForms.{an_end, end_good, node_rest_form, nodes_form, end_after}
 

@@ -14,7 +14,7 @@ use Rattle.g_listing_grammar.specs.declared.LiteralFirst.TheVariants as begin
 use Rattle.g_listing_grammar.specs.Words.{close_bracket, comma_or_bracket}
 use Rattle.g_listing_grammar.specs.Types.{is_above}
 use Rattle.g_listing_grammar.specs.Literals.{literal_first, literal_word, fitting_literal, next_item, array_rest, literal_rest, literals}
-use Rattle.g_listing_completions.proofs.Forms.{State, midway, Form, sides, form_give, form_bind, form_choice, form_loop, in_line}
+use Rattle.g_listing_completions.proofs.Forms.{midway, Form, sides, form_give, form_bind, form_choice, form_loop, in_line}
 use Rattle.g_listing_completions.proofs.TypeForms.{Inline, others_form}
 
 next_form : (g : Grammar Token Lit) → Inline g → (again : Bool) → Form (next_item g again) (sides (λ (a : Lit). midway) (λ (d : Unit {0}). midway)) midway

@@ -36,7 +36,6 @@ use Rattle.g_print_laws.proofs.Parts.{some_is}
 use Rattle.g_listing_completions.proofs.Over.{over}
 use Rattle.g_listing_completions.proofs.Good.{Good, token_of, good_word}
 use Rattle.g_listing_completions.proofs.Forms.{State, fresh, midway, sides, Steps, Form, GoodHas, form_give, form_take, form_bind, form_loop, form_exactly, form_in, form_first, in_line, at_start, either_steps}
-use Rattle.g_listing_completions.proofs.TypeForms.{Inline}
 use Rattle.g_listing_completions.proofs.BorderForms.{Ending, going, eol_steps, name_form, wire_form, eol_form, field_form, type_form, literal_form, operands_form, last_wire_form, to_wire_form, across_form, lines_form}
 
 -- one more of a kind goes on inside a line, and the last ends it

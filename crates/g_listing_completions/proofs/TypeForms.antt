@@ -12,7 +12,7 @@ use Rattle.g_listing_grammar.specs.declared.TypeWord.TheVariants as type
 use Rattle.g_listing_grammar.specs.Words.{close_bracket, close_paren, open_paren, close_brace, comma_or_brace}
 use Rattle.g_listing_grammar.specs.Types.{types, type_rest, type_first, type_word, fitting, holds_others, is_above, others, more_others, in_parens}
 use Rattle.g_listing_completions.proofs.Good.{good_word}
-use Rattle.g_listing_completions.proofs.Forms.{State, midway, Form, form_give, form_bind, form_choice, form_in, in_line}
+use Rattle.g_listing_completions.proofs.Forms.{midway, Form, form_give, form_bind, form_choice, form_in, in_line}
 
 -- a form that begins and ends inside a line
 abbrev pub Inline : {A : Type 0} → Grammar Token A → Type 0

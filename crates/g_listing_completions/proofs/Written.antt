@@ -1,5 +1,5 @@
 -- Bytes that have given tokens: each written, with a space after it.
-use Rattle.std.proofs.Common.{◌≡◌, ℕ, suc, ◌+◌, ◌/◌, ◌%◌, ◌<◌, ◌≤◌, ◌^◌, Bool, true, false, ◌&&◌, ◌||◌, List, [], ◌∷◌, ◌++◌, ℤ, pos, negsuc, cond, refl, sym, ap, ◌∙◌, arith}
+use Rattle.std.proofs.Common.{◌≡◌, ℕ, suc, ◌+◌, ◌/◌, ◌%◌, ◌<◌, ◌^◌, Bool, true, false, ◌&&◌, ◌||◌, List, [], ◌∷◌, ◌++◌, ℤ, pos, negsuc, cond, refl, ◌∙◌, arith}
 use Rattle.std.specs.Prelude.{nat_lt, ◌==◌}
 use Rattle.std.specs.List.{list_all}
 use Rattle.std.specs.Fmt.{decimal, signed_decimal}
@@ -15,11 +15,11 @@ use Rattle.g_tokens.specs.declared.token.Mark.{Mark}
 use Rattle.g_tokens.specs.declared.token.Mark.TheVariants as mark
 use Rattle.g_tokens.specs.Tokens.{is_word_byte}
 use Rattle.g_print_laws.specs.Bytes.{IsBytes}
-use Rattle.g_print_laws.proofs.Lexing.{Full, Inside, IsPiece, IsWord, both, finish, feed, space, starts, word_piece, mark_piece, arrow_piece, feeds_piece, dots_piece}
+use Rattle.g_print_laws.proofs.Lexing.{Inside, IsWord, both, finish, feed, space, starts, word_piece, mark_piece, arrow_piece, feeds_piece, dots_piece}
 use Rattle.g_print_laws.proofs.NumberPieces.{IsShort, number_piece}
 use Rattle.g_print_laws.proofs.TextPieces.{is_byte, text_piece}
-use Rattle.g_print_laws.proofs.Parts.{IsGood, AreGood}
-use Rattle.g_listing_completions.proofs.Forms.{State, fresh, midway, done, lost, run}
+use Rattle.g_print_laws.proofs.Parts.{AreGood}
+use Rattle.g_listing_completions.proofs.Forms.{done, lost, run}
 use Rattle.g_listing_completions.proofs.BorderForms.{going}
 use Rattle.g_listing_completions.proofs.CutLines.{At}
 
