@@ -16,7 +16,7 @@ use Rattle.g_listing_completions.specs.Completion.{place_after}
 use Rattle.g_listing_completions.proofs.Places.{place_both}
 use Rattle.g_listing_completions.proofs.Forms.{State, fresh, midway, step, run, run_both}
 use Rattle.g_listing_completions.proofs.BorderForms.{going}
-use Rattle.g_listing_completions.proofs.Lexical.{is_clean, is_plain, plain_lexemes}
+use Rattle.g_listing_completions.proofs.Lexical.{is_clean, is_lexical, is_plain, lexemes_lexical, plain_lexemes}
 use Rattle.g_listing_completions.proofs.Cuts.{Fore, place, head_of, tail_of, cut_line}
 
 -- ---- bytes put below or behind
@@ -171,14 +171,44 @@ line_part n (y ∷ all) (z ∷ before) after x e =
     further_part n 0 y all z before x.1 (head_of (placed n y.token y.begin) z (line_rest n y.end all) (before ++ x ∷ after) e)
     (rest_part n y.end all before after x (tail_of (placed n y.token y.begin) z (line_rest n y.end all) (before ++ x ∷ after) e))
 
+-- ---- no line has END
+
+abbrev is_other : Token → Bool
+is_other token.End = false
+is_other _ = true
+
+other_token : (t : Token) → is_lexical t ≡ true → is_other t ≡ true
+other_token token.End h = absurd cc
+other_token t h = refl
+
+other_tokens : (ts : List Token) → list_all is_lexical ts ≡ true → list_all is_other ts ≡ true
+other_tokens [] h = refl
+other_tokens (t ∷ ts) h =
+    let q = and_parts (is_lexical t) (list_all is_lexical ts) h in
+    both (is_other t) (list_all is_other ts) (other_token t q.0) (other_tokens ts q.1)
+
+other_line : (xs : List Lexeme) → list_all is_lexical (kinds xs) ≡ true → list_all is_other (line_kinds xs) ≡ true
+other_line [] h = refl
+other_line (x ∷ xs) h = list_all-append is_other (kinds (x ∷ xs)) (token.Eol ∷ []) ∙ both (list_all is_other (kinds (x ∷ xs))) true (other_tokens (kinds (x ∷ xs)) h) refl
+
+no_end : (n : ℕ) (line : List ℕ) (before after : List (Token × Spot)) (x : Token × Spot) → line_tokens n (lexed line) ≡ before ++ x ∷ after → x.0 ≡ token.End → ⊥
+no_end n line before after x e is =
+    let all : list_all is_other (tokens_of before ++ x.0 ∷ tokens_of after) ≡ true =
+    ap (list_all is_other) (sym (map-append kind_of before (x ∷ after)) ∙ ap tokens_of (sym e) ∙ kinds_of n (lexed line)) ∙ other_line (lexed line) (lexemes_lexical (content line) 0 0) in
+    let from = and_parts (list_all is_other (tokens_of before)) (list_all is_other (x.0 ∷ tokens_of after)) (sym (list_all-append is_other (tokens_of before) (x.0 ∷ tokens_of after)) ∙ all) in
+    let here = and_parts (is_other x.0) (list_all is_other (tokens_of after)) from.1 in
+    let f : true ≡ false = sym here.0 ∙ ap is_other is in
+    cc
+
 -- ---- bytes before a token
 
 -- bytes from the start of a line on, cut before a token of which these are before it
-pub record Split (n : ℕ) (bytes : List ℕ) (before : List Token) (spot : Spot) : Type 0 where
+pub record Split (n : ℕ) (bytes : List ℕ) (before : List Token) (x : Token × Spot) : Type 0 where
   pub front : List ℕ
   pub back : List ℕ
   pub parts : bytes ≡ front ++ back
-  pub there : place_after (record { line = n; column = 1 }) front ≡ spot
+  pub all : x.0 ≡ token.End → back ≡ []
+  pub there : place_after (record { line = n; column = 1 }) front ≡ x.1
   pub amid : Bool
   pub state : run fresh before ≡ going amid
   pub goes : (bytes : List ℕ) (ts : List Token) → At amid bytes ts → Full (front ++ parted amid bytes) (before ++ ts)
@@ -229,7 +259,7 @@ goes_in_line front (x ∷ xs) plain f =
     (true, run_first x.token (kinds xs) plain, λ bytes ts i. starts x.token (no_eol x.token q.0) (behind front (kinds (x ∷ xs)) f i))
 
 module _ (n : ℕ) (line rest : List ℕ) where
-  this_line : (before after : List (Token × Spot)) (x : Token × Spot) → line_tokens n (lexed line) ≡ before ++ x ∷ after → list_all is_clean (tokens_of before) ≡ true → Split n (line ++ rest) (tokens_of before) x.1
+  this_line : (before after : List (Token × Spot)) (x : Token × Spot) → line_tokens n (lexed line) ≡ before ++ x ∷ after → list_all is_clean (tokens_of before) ≡ true → Split n (line ++ rest) (tokens_of before) x
   this_line before after x e clean =
       let p = line_part n (lexed line) before after x e in
       let plain : list_all is_plain (kinds p.0) ≡ true = plain_lexemes (content line) p.0 p.1 p.2 (ap (list_all is_clean) (sym p.3) ∙ clean) in
@@ -237,12 +267,13 @@ module _ (n : ℕ) (line rest : List ℕ) where
       let left = content_parts line in
       let g = goes_in_line c.before p.0 plain c.fore in
       let long : length c.before ≡ place 0 p.0 p.1 = omega (arith, c.there) in
-      subst (λ (ts : List Token). Split n (line ++ rest) ts x.1) (sym p.3) (record {
+      subst (λ (ts : List Token). Split n (line ++ rest) ts x) (sym p.3) (record {
         front = c.before;
         back = c.after ++ (left.0 ++ rest);
         parts =
             ap (λ (l : List ℕ). l ++ rest) (left.1 ∙ ap (λ (l : List ℕ). l ++ left.0) c.parts)
             ∙ append_assoc (c.before ++ c.after) left.0 rest ∙ append_assoc c.before c.after (left.0 ++ rest);
+        all = λ is. absurd (no_end n line before after x e is);
         there = at_column n c.before (place 0 p.0 p.1) x.1 (all_feed c.before c.fore.inner) long p.4;
         amid = g.0;
         state = g.1;
@@ -262,24 +293,26 @@ whole_line n line before e clean =
     own [] h = refl
     own (x ∷ xs) h = (and_parts (list_all is_clean (kinds (x ∷ xs))) true (sym (list_all-append is_clean (kinds (x ∷ xs)) (token.Eol ∷ [])) ∙ h)).0
 
-at_end : (n : ℕ) (line : List ℕ) (before : List Token) (spot : Spot) → list_all no_feed line ≡ true → Whole line before → placed n token.End (length line) ≡ (token.End, spot) → Split n (line ++ []) before spot
-at_end n line before spot h w e =
-    subst (λ (ts : List Token). Split n (line ++ []) ts spot) (sym w.1) (record {
+at_end : (n : ℕ) (line : List ℕ) (before : List Token) (x : Token × Spot) → list_all no_feed line ≡ true → Whole line before → placed n token.End (length line) ≡ x → Split n (line ++ []) before x
+at_end n line before x h w e =
+    subst (λ (ts : List Token). Split n (line ++ []) ts x) (sym w.1) (record {
       front = line;
       back = [];
       parts = refl;
-      there = at_column n line (length line) spot h refl (sym (ap spot_of e));
+      all = λ is. refl;
+      there = at_column n line (length line) x.1 h refl (sym (ap spot_of e));
       amid = false;
       state = run_line (lexed line) w.0;
       goes = λ bytes ts full. above line h full;
     })
 
-later_line : (n : ℕ) (line rest : List ℕ) (b : ℕ) (own below : List Token) (spot : Spot) → b ≡ 10 → list_all no_feed line ≡ true → Whole line own → Split (suc n) rest below spot → Split n (line ++ b ∷ rest) (own ++ below) spot
-later_line n line rest b own below spot is h w s =
-    subst (λ (ts : List Token). Split n (line ++ b ∷ rest) (ts ++ below) spot) (sym w.1) (record {
+later_line : (n : ℕ) (line rest : List ℕ) (b : ℕ) (own below : List Token) (x : Token × Spot) → b ≡ 10 → list_all no_feed line ≡ true → Whole line own → Split (suc n) rest below x → Split n (line ++ b ∷ rest) (own ++ below) x
+later_line n line rest b own below x is h w s =
+    subst (λ (ts : List Token). Split n (line ++ b ∷ rest) (ts ++ below) x) (sym w.1) (record {
       front = line ++ 10 ∷ s.front;
       back = s.back;
       parts = ap (λ (k : ℕ). line ++ k ∷ rest) is ∙ ap (λ (l : List ℕ). line ++ 10 ∷ l) s.parts ∙ sym (append_assoc line (10 ∷ s.front) s.back);
+      all = s.all;
       there = below_line n line s.front h ∙ s.there;
       amid = s.amid;
       state = run_both fresh (line_kinds (lexed line)) below ∙ ap (λ (u : State). run u below) (run_line (lexed line) w.0) ∙ s.state;
@@ -303,7 +336,7 @@ append_split {A} (y ∷ u) v (z ∷ a) b x e =
 -- the further bytes of a listing
 abbrev Cuts : List ℕ → Type 0
 Cuts rest = (begun : List ℕ) (n : ℕ) → list_all no_feed begun ≡ true → (before after : List (Token × Spot)) (x : Token × Spot) → lines_tokens n (lines begun rest) ≡ before ++ x ∷ after
-    → list_all is_clean (tokens_of before) ≡ true → Split n (begun ++ rest) (tokens_of before) x.1
+    → list_all is_clean (tokens_of before) ≡ true → Split n (begun ++ rest) (tokens_of before) x
 
 end_item : {A : Type 0} (y x : A) (c b : List A) → y ∷ [] ≡ c ++ x ∷ b → (c ≡ []) × (y ≡ x)
 end_item y x [] b e = (refl, head_of y x [] b e)
@@ -316,30 +349,30 @@ last_line begun n h before after x e clean = elim (append_split (line_tokens n (
   | inr q ↦
       let i = end_item (placed n token.End (length begun)) x q.0 after q.2 in
       let own : before ≡ line_tokens n (lexed begun) = q.1 ∙ ap (λ (l : List (Token × Spot)). line_tokens n (lexed begun) ++ l) i.0 ∙ append-nil (line_tokens n (lexed begun)) in
-      at_end n begun (tokens_of before) x.1 h (whole_line n begun before own clean) (ap (λ (z : Token × Spot). (token.End, z.1)) i.1)
+      at_end n begun (tokens_of before) x h (whole_line n begun before own clean) i.1
 ]
 
 more_lines : (b : ℕ) (rest : List ℕ) → Cuts rest → Cuts (b ∷ rest)
 more_lines b rest ih begun n h before after x e clean = go (b == 10) refl
   where
-    ends : b ≡ 10 → Split n (begun ++ b ∷ rest) (tokens_of before) x.1
+    ends : b ≡ 10 → Split n (begun ++ b ∷ rest) (tokens_of before) x
     ends is = elim (append_split (line_tokens n (lexed begun)) (lines_tokens (suc n) (lines [] rest)) before after x (sym (line_break n begun rest b is) ∙ e)) [
       | inl q ↦ this_line n begun (b ∷ rest) before q.0 x q.1 clean
       | inr q ↦
           let both-are : tokens_of before ≡ tokens_of (line_tokens n (lexed begun)) ++ tokens_of q.0 = ap tokens_of q.1 ∙ map-append kind_of (line_tokens n (lexed begun)) q.0 in
           let c = and_parts (list_all is_clean (tokens_of (line_tokens n (lexed begun)))) (list_all is_clean (tokens_of q.0))
           (sym (list_all-append is_clean (tokens_of (line_tokens n (lexed begun))) (tokens_of q.0)) ∙ ap (list_all is_clean) (sym both-are) ∙ clean) in
-          subst (λ (ts : List Token). Split n (begun ++ b ∷ rest) ts x.1) (sym both-are)
-          (later_line n begun rest b (tokens_of (line_tokens n (lexed begun))) (tokens_of q.0) x.1 is h (whole_line n begun (line_tokens n (lexed begun)) refl c.0) (ih [] (suc n) refl q.0 after x q.2 c.1))
+          subst (λ (ts : List Token). Split n (begun ++ b ∷ rest) ts x) (sym both-are)
+          (later_line n begun rest b (tokens_of (line_tokens n (lexed begun))) (tokens_of q.0) x is h (whole_line n begun (line_tokens n (lexed begun)) refl c.0) (ih [] (suc n) refl q.0 after x q.2 c.1))
     ]
 
-    grows : (b == 10) ≡ false → Split n (begun ++ b ∷ rest) (tokens_of before) x.1
+    grows : (b == 10) ≡ false → Split n (begun ++ b ∷ rest) (tokens_of before) x
     grows other =
         let one : list_all no_feed (begun ++ b ∷ []) ≡ true = list_all-append no_feed begun (b ∷ []) ∙ both (list_all no_feed begun) (no_feed b && true) h (rw other refl) in
-        subst (λ (l : List ℕ). Split n l (tokens_of before) x.1) (append_assoc begun (b ∷ []) rest)
+        subst (λ (l : List ℕ). Split n l (tokens_of before) x) (append_assoc begun (b ∷ []) rest)
         (ih (begun ++ b ∷ []) n one before after x (ap (lines_tokens n) (sym (line_grows begun rest b other)) ∙ e) clean)
 
-    go : (v : Bool) → (b == 10) ≡ v → Split n (begun ++ b ∷ rest) (tokens_of before) x.1
+    go : (v : Bool) → (b == 10) ≡ v → Split n (begun ++ b ∷ rest) (tokens_of before) x
     go true is = ends (eqb-true b 10 is)
     go false is = grows is
 
@@ -348,5 +381,5 @@ all_lines [] = last_line
 all_lines (b ∷ rest) = more_lines b rest (all_lines rest)
 
 -- a listing's bytes, cut before any of its tokens
-pub split_bytes : (bytes : List ℕ) (before after : List (Token × Spot)) (x : Token × Spot) → placed_tokens bytes ≡ before ++ x ∷ after → list_all is_clean (tokens_of before) ≡ true → Split 1 bytes (tokens_of before) x.1
+pub split_bytes : (bytes : List ℕ) (before after : List (Token × Spot)) (x : Token × Spot) → placed_tokens bytes ≡ before ++ x ∷ after → list_all is_clean (tokens_of before) ≡ true → Split 1 bytes (tokens_of before) x
 split_bytes bytes before after x e clean = all_lines bytes [] 1 refl before after x e clean

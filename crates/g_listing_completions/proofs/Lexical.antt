@@ -21,7 +21,7 @@ is_clean token.Bad = false
 is_clean _ = true
 
 -- a token that bytes of a line can be
-abbrev is_lexical : Token → Bool
+abbrev pub is_lexical : Token → Bool
 is_lexical token.Eol = false
 is_lexical token.End = false
 is_lexical _ = true
@@ -90,7 +90,7 @@ gap_lexical true q at w go k = k 0
 gap_lexical false true at w go k = refl
 gap_lexical false false at w go k = both (is_lexical (front w).0) (list_all is_lexical (kinds (go ((front w).1 - 1)))) (longest_lexical (length w) w) (k ((front w).1 - 1))
 
-lexemes_lexical : (w : List ℕ) (skip at : ℕ) → list_all is_lexical (kinds (lexemes true skip at w)) ≡ true
+pub lexemes_lexical : (w : List ℕ) (skip at : ℕ) → list_all is_lexical (kinds (lexemes true skip at w)) ≡ true
 unfolding lexemes
 lexemes_lexical [] skip at = refl
 lexemes_lexical (b ∷ w) zero at = gap_lexical (is_space b) (true && b == 35) at (b ∷ w) (λ skip. lexemes true skip (suc at) w) (λ skip. lexemes_lexical w skip (suc at))

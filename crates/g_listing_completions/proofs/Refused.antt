@@ -125,6 +125,7 @@ in_bytes bytes spot are before after t split none completion h completed =
       back = s.back;
       parts = s.parts;
       place = s.there;
+      all = s.all;
       only = λ other back e same. one_front other back s.front s.back (sym e ∙ s.parts) (same ∙ sym s.there);
       completion = parted s.amid w.0;
       are_bytes = parted_bytes s.amid w.0 w.1;

@@ -2,6 +2,7 @@
 use Rattle.std.specs.Prelude.{◌≡◌, ℕ, suc, ◌==◌, List, [], ◌∷◌, ◌++◌, if◌then◌else◌}
 use Rattle.g_diagram.specs.declared.hierarchy.Hierarchy.{Hierarchy}
 use Rattle.g_tokens.specs.declared.token.Token.{Token}
+use Rattle.g_tokens.specs.declared.token.Token.TheVariants.{End}
 use Rattle.g_tokens.specs.declared.token.Spot.{Spot}
 use Rattle.g_tokens.specs.Tokens.{placed_tokens, tokens_of}
 use Rattle.g_listing_grammar.specs.Listing.{IsListing}
@@ -28,11 +29,12 @@ pub record IsFirstRefusedInBytes (bytes : List ℕ) (spot : Spot) : Type 0 where
   pub after : List (Token × Spot)
   pub split : placed_tokens bytes ≡ before ++ (token, spot) ∷ after
   pub refused : (others : List ℕ) (more : List Token) (h : Hierarchy) → tokens_of (placed_tokens others) ≡ tokens_of before ++ token ∷ more → IsListing others h → ⊥
-  -- the bytes before the place, and no others
+  -- the bytes before the place, and no others; all bytes stand before their end
   pub front : List ℕ
   pub back : List ℕ
   pub parts : bytes ≡ front ++ back
   pub place : place_after first_place front ≡ spot
+  pub all : token ≡ End → back ≡ []
   pub only : (other back : List ℕ) → bytes ≡ other ++ back → place_after first_place other ≡ spot → other ≡ front
   -- what makes a listing of them
   pub completion : List ℕ
