@@ -26,12 +26,13 @@ use Rattle.g_listing_grammar.specs.declared.HeaderWord.TheVariants as header
 use Rattle.g_listing_grammar.specs.Words.{word_in, word, feeds, equals_or_arrow, pool_size, version}
 use Rattle.g_listing_grammar.specs.Nodes.{node_first}
 use Rattle.g_listing_grammar.specs.Listing.{header_words, system_end, after_clones, kind_rest, default_rest, control_rest, panel_rest, panel_words, Begin, end, body_first, body_item, nodes_after, vi_rest, vi_or_end, vi_word, at_end, vis, listing, header_word, not_clones, system_or_eol, control_mark}
+use Rattle.g_listing_grammar.proofs.LiveNodes.{end_after}
 use Rattle.g_print_laws.proofs.Parts.{some_is}
 use Rattle.g_print_laws.proofs.Tables.{holds}
 use Rattle.g_listing_completions.proofs.Good.{good_word}
 use Rattle.g_listing_completions.proofs.Forms.{State, fresh, midway, done, sides, Steps, Form, form_give, form_take, form_bind, form_loop, form_in, form_first, at_start, either_steps}
 use Rattle.g_listing_completions.proofs.BorderForms.{Ending, name_form, eol_form, type_form, literal_form, last_wire_form, to_wire_form}
-use Rattle.g_listing_completions.proofs.NodeForms.{an_end, end_good, node_rest_form, nodes_form, end_after}
+use Rattle.g_listing_completions.proofs.NodeForms.{an_end, end_good, node_rest_form, nodes_form}
 
 -- ---- the header
 

@@ -265,9 +265,6 @@ end_is_other v = refl
 ends_at : {D : Type 0} (v n : ℕ) (q : Option D) (d : D) → q ≡ Some d → either (node_first v n an_end) q ≡ Some (inr d)
 ends_at v n q d end = rw (end_is_other v, end) refl
 
-pub end_after : (v n : ℕ) → either (node_first v n an_end) (word (codes "end") an_end) ≡ Some (inr tt)
-end_after v n = ends_at v n (word (codes "end") an_end) tt refl
-
 ends_until : (u : Until) → word_in (ends_of u) an_end ≡ Some false
 ends_until until.End = refl
 ends_until until.WhenOrEnd = refl
