@@ -1,0 +1,16 @@
+pub mod Over
+pub mod Good
+pub mod Forms
+pub mod TypeForms
+pub mod LiteralForms
+pub mod BorderForms
+pub mod NodeForms
+pub mod ListingForms
+pub mod Following
+pub mod Lexical
+pub mod Cuts
+pub mod Places
+pub mod CutLines
+pub mod Written
+pub mod Refused
+pub mod Examples
