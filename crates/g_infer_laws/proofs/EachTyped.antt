@@ -1,29 +1,29 @@
 -- Each wire of a VI has a type, where none of the rules is broken: by the order of the steps in which types are decided.
-use Rattle.std.proofs.Common.{◌≡◌, inl, inr, ⊎_elim, ℕ, Bool, true, false, List, [], ◌∷◌, ◌++◌, map, refl, ap, sym, ◌∙◌, subst}
-use Rattle.std.specs.Prelude.{Option, Some, None, is_some, slice_get}
+use Rattle.std.proofs.Common.{◌≡◌, inl, inr, ⊎_elim, ℕ, Bool, true, false, List, [], ◌∷◌, ◌++◌, refl, ap, ◌∙◌, subst}
+use Rattle.std.specs.Prelude.{Option, Some, None, is_some}
 use Rattle.std.specs.List.{All}
-use Rattle.std.proofs.lemmas.List.Elements.{All-nil, All-cons}
+use Rattle.std.proofs.lemmas.List.Elements.{All-nil, All-cons, All-from_recursion}
 use Rattle.g_types.specs.declared.ty.Ty.{Ty}
 use Rattle.g_diagram.specs.declared.hierarchy.Vi.{Vi}
 use Rattle.g_diagram.specs.Lines.{Wire, Entry, entries_of}
 use Rattle.g_diagram.specs.Operands.{Line, control_lines, entries_lines}
 use Rattle.g_diagram.specs.Ports.{Port, ports_of, freedom}
 use Rattle.g_typing.specs.Types.{Types}
-use Rattle.g_typing.specs.Typing.{Given, Callees, Objects, IsGivenTo, IsTyping, AreTypes, called_panel, panel_type}
+use Rattle.g_typing.specs.Typing.{Given, Callees, Objects, IsGivenTo, AreTypes, called_panel, panel_type, all_given}
 use Rattle.g_typing.proofs.Unique.{Step, HaveGiven}
 use Rattle.g_typing.proofs.Steps.{kind_steps}
-use Rattle.g_typing.proofs.Only.{IsIn, entries_steps, vi_steps, typing_holds, holds_in}
+use Rattle.g_typing.proofs.Only.{IsIn, all_gives, entries_steps, vi_steps, vi_gives, typing_holds, holds_in}
 use Rattle.g_typing.proofs.Roles.{nothing, IsRead}
 use Rattle.g_typing.proofs.NodeRoles.{in_append}
 use Rattle.g_typing.proofs.Names.{Giver, vi_named, named_in, same_given}
 use Rattle.g_typing.proofs.Ready.{IsOf, Ready, ready}
 use Rattle.g_typing.proofs.Agreed.{all_ready}
 use Rattle.g_infer_laws.specs.Wires.{HasType, EachWireTyped}
-use Rattle.g_infer_laws.proofs.Facts.{refute}
-use Rattle.g_infer_laws.proofs.Held.{LinesHold, PortsHold, lines_right, lines_of_one, to_ports, from_ports}
+use Rattle.g_infer_laws.proofs.Facts.{refute, all_both, all_right}
+use Rattle.g_infer_laws.proofs.Held.{LineHolds, LinesHold, PortsHold, lines_of_one, to_ports, from_ports}
 use Rattle.g_infer_laws.proofs.Sources.{Sourced, vi_sourced}
 use Rattle.g_infer_laws.proofs.Rules.{Fed, IsRight, consumers_fed, none_turns, right, all_fine}
-use Rattle.g_infer_laws.proofs.Gives.{HaveTypes, controls_typed, AllIfGiven, kind_typed}
+use Rattle.g_infer_laws.proofs.Gives.{GivesType, HaveTypes, controls_typed, AllIfGiven, kind_typed}
 
 -- a name that is given with a type has one
 name_typed : (M : Types) (gs : List Given) (d : ℕ) (n : List ℕ) → HaveGiven M gs → HaveTypes gs → IsGivenTo gs d n → is_some (M d n) ≡ true
@@ -63,23 +63,34 @@ module _ (vis : List Vi) (vi : Vi) (types : Types) where
 
   module _ (typing : AreTypes (called_panel vis) vi.panel es types) (nodes : (e : Entry) → IsOf e es → IsRight vis vi.panel types e.line e.diagram e.kind)
       (fed : LinesHold (Fed (Giver all)) lines) where
+    -- a name has a type where its giver gives types
+    by_giver : (d : ℕ) (n : List ℕ) (g : Giver all d n) → HaveTypes (g.step.gives types) → is_some (types d n) ≡ true
+    by_giver d n g typed =
+        name_typed types (g.step.gives types) d n (holds_in types g.step all (typing_holds (called_panel vis) vi.panel es types typing) g.is) typed
+        (same_given (g.step.gives nothing) (g.step.gives types) d n (named_in g.step all (vi_named (called_panel vis) vi.panel es) g.is nothing types) g.gives)
+
     step_typed : (s : Step) → Ready all s → IsIn s all → HaveTypes (s.gives types)
     step_typed s (ready _ h) (inl q) = subst (λ (y : Step). HaveTypes (y.gives types)) q (controls_typed vi.panel)
     step_typed s (ready _ h) (inr i) =
         let o : Origin (called_panel vis) (panel_type vi.panel) es s = origin (called_panel vis) (panel_type vi.panel) es s i in
         kind_typed types (Giver all) vis vi.panel (freedom vis) o.entry o.entry.kind (nodes o.entry o.is)
-        (lines_of_one (Fed (Giver all)) (freedom vis) es (lines_right (Fed (Giver all)) (control_lines 1 vi.panel) (entries_lines (freedom vis) es) fed) o.entry o.is)
+        (lines_of_one (Fed (Giver all)) (freedom vis) es (all_right (LineHolds (Fed (Giver all))) (control_lines 1 vi.panel) (entries_lines (freedom vis) es) fed) o.entry o.is)
         s o.step
-        (all_read types (Giver all) s.reads (λ d n reads g.
-        name_typed types (g.step.gives types) d n (holds_in types g.step all (typing_holds (called_panel vis) vi.panel es types typing) g.is)
-        (step_typed g.step (h g.step g.is (record { diagram = d; name = n; reads = reads; gives = g.gives })) g.is)
-        (same_given (g.step.gives nothing) (g.step.gives types) d n (named_in g.step all (vi_named (called_panel vis) vi.panel es) g.is nothing types) g.gives)))
+        (all_read types (Giver all) s.reads
+        (λ d n reads g. by_giver d n g (step_typed g.step (h g.step g.is (record { diagram = d; name = n; reads = reads; gives = g.gives })) g.is)))
 
     given_typed : ((t : Step) → IsIn t all → Ready all t) → (d : ℕ) (n : List ℕ) → Giver all d n → is_some (types d n) ≡ true
-    given_typed every d n g =
-        name_typed types (g.step.gives types) d n (holds_in types g.step all (typing_holds (called_panel vis) vi.panel es types typing) g.is)
-        (step_typed g.step (every g.step g.is) g.is)
-        (same_given (g.step.gives nothing) (g.step.gives types) d n (named_in g.step all (vi_named (called_panel vis) vi.panel es) g.is nothing types) g.gives)
+    given_typed every d n g = by_giver d n g (step_typed g.step (every g.step g.is) g.is)
+
+    -- each of what the lines give
+    all_given_typed : ((t : Step) → IsIn t all → Ready all t) → All GivesType (all_given (called_panel vis) vi.panel es types)
+    all_given_typed every =
+        All-from_recursion GivesType (all_given (called_panel vis) vi.panel es types)
+        (subst HaveTypes (vi_gives (called_panel vis) vi.panel es types) (steps_typed all (λ s is. step_typed s (every s is) is)))
+      where
+        steps_typed : (ss : List Step) → ((s : Step) → IsIn s ss → HaveTypes (s.gives types)) → HaveTypes (all_gives types ss)
+        steps_typed [] each = tt
+        steps_typed (s ∷ ss) each = all_both GivesType (s.gives types) (all_gives types ss) (each s (inl refl)) (steps_typed ss (λ t is. each t (inr is)))
 
 the_type : (o : Option Ty) → is_some o ≡ true → (t : Ty) × (o ≡ Some t)
 the_type None some = absurd (refute some)
@@ -104,6 +115,10 @@ each_wire_typed h main wiring unbroken k vi types stands own typing =
     to_ports (Sourced G) (lines h.vis vi types)
     (vi_sourced types (freedom h.vis) (called_panel h.vis) vi.panel (entries_of vi) (all_fine h main wiring k vi stands unbroken types typing own)) in
     let fed : PortsHold (Fed G) (ports_of h.vis vi) = consumers_fed h main wiring k vi stands G sourced in
-    ports_typed G types (ports_of h.vis vi) sourced fed
-    (given_typed h.vis vi types typing.given (right h main wiring k vi stands unbroken types typing own) (from_ports (Fed G) (lines h.vis vi types) fed)
-    (all_ready h.vis vi (none_turns h main wiring k vi stands)))
+    let nodes : (e : Entry) → IsOf e (entries_of vi) → IsRight h.vis vi.panel types e.line e.diagram e.kind = right h main wiring k vi stands unbroken types typing own in
+    let held : LinesHold (Fed G) (lines h.vis vi types) = from_ports (Fed G) (lines h.vis vi types) fed in
+    let every = all_ready h.vis vi (none_turns h main wiring k vi stands) in
+    record {
+      wires = ports_typed G types (ports_of h.vis vi) sourced fed (given_typed h.vis vi types typing.given nodes held every);
+      given = all_given_typed h.vis vi types typing.given nodes held every;
+    }

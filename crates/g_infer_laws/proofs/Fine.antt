@@ -1,10 +1,9 @@
 -- Lines that give each of their sources a type where their operands have types: where no row is missing, and each structure has lines of its
 -- own alone.
-use Rattle.std.proofs.Common.{◌≡◌, ℕ, ◌+◌, Bool, true, false, not, ◌&&◌, List, [], ◌∷◌, ◌++◌, length, refl, ap, sym, ◌∙◌}
+use Rattle.std.proofs.Common.{◌≡◌, ℕ, ◌+◌, Bool, true, false, not, List, [], ◌∷◌, ◌++◌, length, refl, ap, arith}
 use Rattle.std.specs.Prelude.{if◌then◌else◌, Option, Some, None, is_some}
-use Rattle.std.specs.List.{Contains, list_all}
+use Rattle.std.specs.List.{AllByRecursion, Contains, list_all}
 use Rattle.std.proofs.lemmas.List.Elements.{Contains-append_left, Contains-append_right}
-use Rattle.std.proofs.Common.{arith}
 use Rattle.g_types.specs.declared.ty.Ty.{Ty}
 use Rattle.g_types.specs.Ty.{is_num}
 use Rattle.g_values.specs.declared.primitive.Primitive.{Primitive}
@@ -115,8 +114,7 @@ IsFine M d before (line.Result outer default) = ⊥
 IsFine M d before _ = Unit {0}
 
 abbrev pub AreFine : Types → (d : ℕ) → (before : Option ℕ) → List Tunnel → Type 0
-AreFine M d before [] = Unit {0}
-AreFine M d before (t ∷ ts) = IsFine M d before t × AreFine M d before ts
+AreFine M d before ts = AllByRecursion (IsFine M d before) ts
 
 abbrev pub PartsFine : Types → (d : ℕ) → (before : Option ℕ) → List Part → Type 0
 PartsFine M d before [] = Unit {0}
@@ -130,8 +128,7 @@ IsKindFine M d (InPlace lines body finish) = AreFine M d None lines
 IsKindFine M d _ = Unit {0}
 
 abbrev pub AllFine : Types → List Entry → Type 0
-AllFine M [] = Unit {0}
-AllFine M (e ∷ es) = IsKindFine M e.diagram e.kind × AllFine M es
+AllFine M es = AllByRecursion (λ e. IsKindFine M e.diagram e.kind) es
 
 module _ (M : Types) where
   loop_line_fine : (d b l : ℕ) (t : Tunnel) → is_loop_line t ≡ true → is_none_of (line_misses M 0 d b l t) ≡ true → IsFine M d None t

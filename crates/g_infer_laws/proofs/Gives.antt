@@ -1,7 +1,7 @@
 -- A node that breaks no rule gives each of its sources a type, where its operands have types.
-use Rattle.std.proofs.Common.{◌≡◌, inl, inr, ⊎_elim, ℕ, zero, suc, ◌+◌, ◌≤◌, ◌==◌, Bool, true, false, not, ◌&&◌, ◌||◌, List, [], ◌∷◌, ◌++◌, map, length, refl, ap, sym, ◌∙◌, subst, arith}
+use Rattle.std.proofs.Common.{◌≡◌, inl, inr, ⊎_elim, ℕ, zero, suc, ◌+◌, ◌==◌, Bool, true, false, not, ◌||◌, List, [], ◌∷◌, ◌++◌, map, length, refl, ap, sym, ◌∙◌, subst, arith}
 use Rattle.std.specs.Prelude.{if◌then◌else◌, Option, Some, None, is_some, slice_get}
-use Rattle.std.specs.List.{list_all, list_any}
+use Rattle.std.specs.List.{AllByRecursion, list_all, list_any}
 use Rattle.std.specs.Option.{option_map}
 use Rattle.std.specs.Str.{bytes_eq}
 use Rattle.std.proofs.lemmas.Bool.{eqb-true}
@@ -15,7 +15,7 @@ use Rattle.g_operations.specs.declared.shared.SharedOp.{SharedOp}
 use Rattle.g_operations.specs.declared.shared.SharedOp.TheVariants as shared
 use Rattle.g_operations.specs.Rows.{allows, fits, primitive_row, shared_row}
 use Rattle.g_prims_definitions.specs.Kinds.{part, array_of}
-use Rattle.g_prims_definitions.specs.Rows.{row_of, is_shallow}
+use Rattle.g_prims_definitions.specs.Rows.{row_of}
 use Rattle.g_prims_laws.proofs.Counts.{fits_row}
 use Rattle.g_diagram.specs.declared.hierarchy.Vi.{Vi}
 use Rattle.g_diagram.specs.declared.node.Tunnel.{Tunnel}
@@ -36,22 +36,20 @@ use Rattle.g_typing.proofs.Steps.{arms_steps, results_steps, parts_steps, kind_s
 use Rattle.g_rules_lines.specs.Arity.{fits_call}
 use Rattle.g_rules_lines.specs.Callees.{arity, indicator_count}
 use Rattle.g_rules_lines.specs.CaseResults.{is_given_at, gives_result, ungiven_in, ungiven_at, ungiven}
-use Rattle.g_rules_lines.specs.PanelObjects.{panel_name, names_object}
+use Rattle.g_rules_lines.specs.PanelObjects.{names_object}
 use Rattle.g_rules_lines.specs.Spots.{Spot, spot_at}
 use Rattle.g_infer_laws.specs.OwnLines.{is_case_line}
-use Rattle.g_infer_laws.proofs.Facts.{refute, and_left, and_right, unnot, some_is, nil_left, nil_right}
-use Rattle.g_infer_laws.proofs.Held.{OperandsHold, LinesHold, lines_left, lines_right}
+use Rattle.g_infer_laws.proofs.Facts.{refute, and_left, and_right, unnot, nil_left, nil_right, all_both, all_left, all_right}
+use Rattle.g_infer_laws.proofs.Held.{OperandsHold, LineHolds, LinesHold}
 use Rattle.g_infer_laws.proofs.Fine.{IsFine, AreFine, PartsFine, test_passed}
 use Rattle.g_infer_laws.proofs.Rules.{Fed, IsRight}
 
 -- each of what is given has a type
-abbrev pub HaveTypes : List Given → Type 0
-HaveTypes [] = Unit {0}
-HaveTypes (g ∷ gs) = (is_some g.type ≡ true) × HaveTypes gs
+abbrev pub GivesType : Given → Type 0
+GivesType g = is_some g.type ≡ true
 
-both_typed : (xs ys : List Given) → HaveTypes xs → HaveTypes ys → HaveTypes (xs ++ ys)
-both_typed [] ys h k = k
-both_typed (x ∷ xs) ys h k = (h.0, both_typed xs ys h.1 k)
+abbrev pub HaveTypes : List Given → Type 0
+HaveTypes gs = AllByRecursion GivesType gs
 
 one_typed : (d : ℕ) (w : Wire) (o : Option Ty) → is_some o ≡ true → HaveTypes (given d w o)
 one_typed d None o h = tt
@@ -59,14 +57,14 @@ one_typed d (Some n) o h = (h, tt)
 
 pub controls_typed : (items : List PanelItem) → HaveTypes (controls_given items)
 controls_typed [] = tt
-controls_typed (Control name t required default out ∷ items) = both_typed (given 0 out (Some t)) (controls_given items) (one_typed 0 out (Some t) refl) (controls_typed items)
+controls_typed (Control name t required default out ∷ items) = all_both GivesType (given 0 out (Some t)) (controls_given items) (one_typed 0 out (Some t) refl) (controls_typed items)
 controls_typed (Indicator name t w ∷ items) = controls_typed items
 
 each_typed : (d : ℕ) (ws : List Wire) (ts : List Ty) → length ws ≡ length ts → HaveTypes (given_each d ws ts)
 each_typed d [] ts same = tt
 each_typed d (w ∷ ws) [] same = absurd (omega (arith, same))
 each_typed d (w ∷ ws) (t ∷ ts) same =
-    both_typed (given d w (Some t)) (given_each d ws ts) (one_typed d w (Some t) refl) (each_typed d ws ts (omega (arith, same)))
+    all_both GivesType (given d w (Some t)) (given_each d ws ts) (one_typed d w (Some t) refl) (each_typed d ws ts (omega (arith, same)))
 
 -- ---- what an operation gives
 
@@ -94,11 +92,13 @@ same_count Any m n one a b fit = eqb-true m n fit
 
 row_gives : (l : ℕ) (p : Primitive) (i m : ℕ) (ts : List Ty) (o : Option (List Ty)) → row_of p ts ≡ o → is_none_of (row_misses 0 l p m ts o) ≡ true → fits (primitive_row p) i m ≡ true → Gives o m
 row_gives l p i m ts None e none fit = absurd (refute none)
-row_gives l p i m ts (Some us) e none fit =
-    (us, refl,
-    same_count (primitive_row p).outputs m (length us) (one_count p) (and_right (allows (primitive_row p).inputs i) (allows (primitive_row p).outputs m) fit)
-    (and_right (allows (primitive_row p).inputs (length ts)) (allows (primitive_row p).outputs (length us)) (fits_row p ts us e))
-    (test_passed (outputs_fit p m (length us)) (place 0 l 1) none))
+row_gives l p i m ts (Some us) e none fit = (
+  us,
+  refl,
+  same_count (primitive_row p).outputs m (length us) (one_count p) (and_right (allows (primitive_row p).inputs i) (allows (primitive_row p).outputs m) fit)
+      (and_right (allows (primitive_row p).inputs (length ts)) (allows (primitive_row p).outputs (length us)) (fits_row p ts us e))
+      (test_passed (outputs_fit p m (length us)) (place 0 l 1) none),
+)
 
 primitive_gives : (l : ℕ) (p : Primitive) (i m : ℕ) (ts : List Ty) → is_none_of (primitive_misses 0 l p m (Some ts)) ≡ true → fits (primitive_row p) i m ≡ true → Gives (row_after p (Some ts)) m
 primitive_gives l p i m ts none fit = row_gives l p i m ts (row_of p ts) refl none fit
@@ -179,17 +179,11 @@ module _ (M : Types) (G : ℕ → List ℕ → Type 0) where
   IfGiven d None = Unit {0}
   IfGiven d (Some name) = G d name → is_some (M d name) ≡ true
 
+  abbrev IsReadTyped : ℕ × Wire → Type 0
+  IsReadTyped q = IfGiven q.0 q.1
+
   abbrev pub AllIfGiven : List (ℕ × Wire) → Type 0
-  AllIfGiven [] = Unit {0}
-  AllIfGiven (q ∷ qs) = IfGiven q.0 q.1 × AllIfGiven qs
-
-  if_left : (xs ys : List (ℕ × Wire)) → AllIfGiven (xs ++ ys) → AllIfGiven xs
-  if_left [] ys h = tt
-  if_left (x ∷ xs) ys h = (h.0, if_left xs ys h.1)
-
-  if_right : (xs ys : List (ℕ × Wire)) → AllIfGiven (xs ++ ys) → AllIfGiven ys
-  if_right [] ys h = h
-  if_right (x ∷ xs) ys h = if_right xs ys h.1
+  AllIfGiven qs = AllByRecursion IsReadTyped qs
 
   -- a step gives types, where what it reads has types
   abbrev pub Typed : Step → Type 0
@@ -236,7 +230,7 @@ module _ (M : Types) (G : ℕ → List ℕ → Type 0) where
   outside_typed e b before l (line.Ref reference inner next same code) fed has =
       let o : Option Ty = wire_type M e.diagram reference in
       let some : is_some o ≡ true = wire_known e.diagram reference fed.0 has.0 in
-      both_typed (given e.diagram same o) (given e.diagram code (then_type o (λ t. Some whole))) (one_typed e.diagram same o some)
+      all_both GivesType (given e.diagram same o) (given e.diagram code (then_type o (λ t. Some whole))) (one_typed e.diagram same o some)
       (one_typed e.diagram code (then_type o (λ t. Some whole)) (whole_known o some))
   outside_typed e b before l (line.Element array index inner next outer) fed has = one_typed e.diagram outer (wire_type M e.diagram array) (wire_known e.diagram array fed.0 has.0)
   outside_typed e b before l (line.Field k cluster inner next outer) fed has = one_typed e.diagram outer (wire_type M e.diagram cluster) (wire_known e.diagram cluster fed.0 has.0)
@@ -246,17 +240,17 @@ module _ (M : Types) (G : ℕ → List ℕ → Type 0) where
       → LinesHold (Fed G) (border_lines e (b ∷ []) (numbers_of before) border l ts) → AllIfGiven (all_inside_reads e.diagram before ts) → HaveTypes (lines_inside M e.diagram b before ts)
   all_inside e b before l [] fine fed has = tt
   all_inside e b before l (t ∷ ts) fine fed has =
-      both_typed (line_inside M e.diagram b before t) (lines_inside M e.diagram b before ts)
-      (inside_typed e b before l t fine.0 fed.0 (if_left (inside_reads e.diagram before t) (all_inside_reads e.diagram before ts) has))
-      (all_inside e b before (l + 1) ts fine.1 fed.1 (if_right (inside_reads e.diagram before t) (all_inside_reads e.diagram before ts) has))
+      all_both GivesType (line_inside M e.diagram b before t) (lines_inside M e.diagram b before ts)
+      (inside_typed e b before l t fine.0 fed.0 (all_left IsReadTyped (inside_reads e.diagram before t) (all_inside_reads e.diagram before ts) has))
+      (all_inside e b before (l + 1) ts fine.1 fed.1 (all_right IsReadTyped (inside_reads e.diagram before t) (all_inside_reads e.diagram before ts) has))
 
   all_outside : (e : Entry) (b : ℕ) (before : Option ℕ) (l : ℕ) (ts : List Tunnel)
       → LinesHold (Fed G) (border_lines e (b ∷ []) (numbers_of before) border l ts) → AllIfGiven (all_outside_reads e.diagram b ts) → HaveTypes (lines_outside M true e.diagram b ts)
   all_outside e b before l [] fed has = tt
   all_outside e b before l (t ∷ ts) fed has =
-      both_typed (line_outside M true e.diagram b t) (lines_outside M true e.diagram b ts)
-      (outside_typed e b before l t fed.0 (if_left (outside_reads e.diagram b t) (all_outside_reads e.diagram b ts) has))
-      (all_outside e b before (l + 1) ts fed.1 (if_right (outside_reads e.diagram b t) (all_outside_reads e.diagram b ts) has))
+      all_both GivesType (line_outside M true e.diagram b t) (lines_outside M true e.diagram b ts)
+      (outside_typed e b before l t fed.0 (all_left IsReadTyped (outside_reads e.diagram b t) (all_outside_reads e.diagram b ts) has))
+      (all_outside e b before (l + 1) ts fed.1 (all_right IsReadTyped (outside_reads e.diagram b t) (all_outside_reads e.diagram b ts) has))
 
   -- ---- cases
 
@@ -271,9 +265,9 @@ module _ (M : Types) (G : ℕ → List ℕ → Type 0) where
       → LinesHold (Fed G) (border_lines e bs [] case_border l ts) → AllIfGiven (all_inside_reads e.diagram None ts) → HaveTypes (lines_inside M e.diagram b None ts)
   case_lines_typed e b bs l [] own fed has = tt
   case_lines_typed e b bs l (t ∷ ts) own fed has =
-      both_typed (line_inside M e.diagram b None t) (lines_inside M e.diagram b None ts)
-      (case_line_typed e b bs l t (and_left (is_case_line t) (list_all is_case_line ts) own) fed.0 (if_left (inside_reads e.diagram None t) (all_inside_reads e.diagram None ts) has))
-      (case_lines_typed e b bs (l + 1) ts (and_right (is_case_line t) (list_all is_case_line ts) own) fed.1 (if_right (inside_reads e.diagram None t) (all_inside_reads e.diagram None ts) has))
+      all_both GivesType (line_inside M e.diagram b None t) (lines_inside M e.diagram b None ts)
+      (case_line_typed e b bs l t (and_left (is_case_line t) (list_all is_case_line ts) own) fed.0 (all_left IsReadTyped (inside_reads e.diagram None t) (all_inside_reads e.diagram None ts) has))
+      (case_lines_typed e b bs (l + 1) ts (and_right (is_case_line t) (list_all is_case_line ts) own) fed.1 (all_right IsReadTyped (inside_reads e.diagram None t) (all_inside_reads e.diagram None ts) has))
 
   arms_typed : (e : Entry) (bs : List ℕ) (l : ℕ) (ts : List Tunnel) → list_all is_case_line ts ≡ true → LinesHold (Fed G) (border_lines e bs [] case_border l ts)
       → (arms : List Arm) (s : Step) → IsIn s (arms_steps e.diagram ts arms) → Typed s
@@ -333,14 +327,14 @@ module _ (M : Types) (G : ℕ → List ℕ → Type 0) where
   parts_typed e before (p ∷ ps) fine fed s (inl q) =
       subst Typed q
       (λ has. all_inside e p.body before (p.body + 1) p.lines fine.0
-      (lines_left (Fed G) (border_lines e (p.body ∷ []) (numbers_of before) border (p.body + 1) p.lines) (parts_lines e (p.body ∷ []) ps) fed) has)
+      (all_left (LineHolds (Fed G)) (border_lines e (p.body ∷ []) (numbers_of before) border (p.body + 1) p.lines) (parts_lines e (p.body ∷ []) ps) fed) has)
   parts_typed e before (p ∷ ps) fine fed s (inr (inl q)) =
       subst Typed q
       (λ has. all_outside e p.body before (p.body + 1) p.lines
-      (lines_left (Fed G) (border_lines e (p.body ∷ []) (numbers_of before) border (p.body + 1) p.lines) (parts_lines e (p.body ∷ []) ps) fed) has)
+      (all_left (LineHolds (Fed G)) (border_lines e (p.body ∷ []) (numbers_of before) border (p.body + 1) p.lines) (parts_lines e (p.body ∷ []) ps) fed) has)
   parts_typed e before (p ∷ ps) fine fed s (inr (inr is)) =
       parts_typed e (Some p.body) ps fine.1
-      (lines_right (Fed G) (border_lines e (p.body ∷ []) (numbers_of before) border (p.body + 1) p.lines) (parts_lines e (p.body ∷ []) ps) fed) s is
+      (all_right (LineHolds (Fed G)) (border_lines e (p.body ∷ []) (numbers_of before) border (p.body + 1) p.lines) (parts_lines e (p.body ∷ []) ps) fed) s is
 
   -- ---- nodes
 
@@ -412,13 +406,13 @@ module _ (M : Types) (G : ℕ → List ℕ → Type 0) where
   kind_typed vis panel free e (Loop count stop iteration ts body) right fed s (inr (inr (inl q))) =
       subst Typed q
       (λ has. subst (λ (b : Bool). HaveTypes (lines_outside M b e.diagram body ts)) (sym right.rows)
-      (all_outside e body None (e.line + 1) ts fed.1 (if_right (kind_reads e.diagram (Loop count stop iteration ts body)) (all_outside_reads e.diagram body ts) has)))
+      (all_outside e body None (e.line + 1) ts fed.1 (all_right IsReadTyped (kind_reads e.diagram (Loop count stop iteration ts body)) (all_outside_reads e.diagram body ts) has)))
   kind_typed vis panel free e (Loop count stop iteration ts body) right fed s (inr (inr (inr q))) = absurd q
   kind_typed vis panel free e (Case selector ts arms) right fed s is =
       let ls : List Line = border_lines e (map (λ a. a.body) arms) [] case_border (e.line + 1) ts in
       ⊎_elim
-      (λ l. arms_typed e (map (λ a. a.body) arms) (e.line + 1) ts right.fine (lines_left (Fed G) ls (map (give_line e) arms) fed.1) arms s l)
-      (λ r. results_typed e arms (lines_right (Fed G) ls (map (give_line e) arms) fed.1) (e.line + 1) 0 ts right.fine right.given s r)
+      (λ l. arms_typed e (map (λ a. a.body) arms) (e.line + 1) ts right.fine (all_left (LineHolds (Fed G)) ls (map (give_line e) arms) fed.1) arms s l)
+      (λ r. results_typed e arms (all_right (LineHolds (Fed G)) ls (map (give_line e) arms) fed.1) (e.line + 1) 0 ts right.fine right.given s r)
       (in_append s (arms_steps e.diagram ts arms) (results_steps e.diagram 0 arms ts) is)
   kind_typed vis panel free e (Sequence parts) right fed s is = parts_typed e None parts right.fine fed s is
   kind_typed vis panel free e (InPlace ts body finish) right fed s (inl q) =
@@ -426,5 +420,5 @@ module _ (M : Types) (G : ℕ → List ℕ → Type 0) where
   kind_typed vis panel free e (InPlace ts body finish) right fed s (inr (inl q)) =
       subst Typed q
       (λ has. subst (λ (b : Bool). HaveTypes (lines_outside M b e.diagram body ts)) (sym right.rows)
-      (all_outside e body None (e.line + 1) ts fed (if_right (kind_reads e.diagram (InPlace ts body finish)) (all_outside_reads e.diagram body ts) has)))
+      (all_outside e body None (e.line + 1) ts fed (all_right IsReadTyped (kind_reads e.diagram (InPlace ts body finish)) (all_outside_reads e.diagram body ts) has)))
   kind_typed vis panel free e (InPlace ts body finish) right fed s (inr (inr q)) = absurd q

@@ -1,10 +1,10 @@
 -- The structures of a listing have lines of their own alone.
-use Rattle.std.proofs.Common.{◌≡◌, ℕ, zero, suc, Bool, true, false, ◌&&◌, List, [], ◌∷◌, ◌++◌, Option, Some, None, codes, refl, subst, inl, inr, ◌⊎◌}
+use Rattle.std.proofs.Common.{◌≡◌, ℕ, zero, suc, Bool, true, false, List, [], ◌∷◌, Option, Some, None, codes, refl, subst, inl, inr, ◌⊎◌}
 use Rattle.std.specs.Prelude.{if◌then◌else◌}
 use Rattle.std.specs.List.{All, AllByRecursion, list_all}
 use Rattle.std.specs.Str.{bytes_eq}
 use Rattle.std.proofs.lemmas.List.Elements.{All-nil, All-cons, All-head, All-tail, All-append}
-use Rattle.g_grammar.specs.Grammar.{Grammar, take, loop, tail, Phrases, Has, either, or_else}
+use Rattle.g_grammar.specs.Grammar.{Grammar, loop, tail, Phrases, Has, either, or_else}
 use Rattle.g_grammar.proofs.Laws.{first_is}
 use Rattle.g_values.specs.declared.primitive.Primitive.{Primitive}
 use Rattle.g_values.specs.declared.primitive.Primitive.TheVariants as primitive
@@ -37,14 +37,14 @@ use Rattle.g_listing_grammar.specs.declared.Border.TheVariants as border
 use Rattle.g_listing_grammar.specs.declared.LineWord.{LineWord}
 use Rattle.g_listing_grammar.specs.declared.SelectorFirst.{SelectorFirst}
 use Rattle.g_listing_grammar.specs.Words.{word, word_in, eol}
-use Rattle.g_listing_grammar.specs.Borders.{register_rest, result_end, line_rest, line_or_end, while_lines, for_lines, case_lines, first_frame_lines, frame_lines, place_lines, lines_of, lines_to}
+use Rattle.g_listing_grammar.specs.Borders.{register_rest, result_end, line_rest, line_or_end, while_lines, first_frame_lines, lines_of, lines_to}
 use Rattle.g_listing_grammar.specs.Nodes.{selector_first, results, and_last, ends_of, Inside, more_or_end, branch_rest, frame_rest, further_frames, node_first, node_or_end, lines_and_body, operation_rest, plain_rest, structure_rest, nodes_of, node_rest, nodes}
 use Rattle.g_listing_grammar.specs.Listing.{Begin, body_first, body_item, nodes_after, vi_rest, vi_word, at_end, vi_or_end, vis, listing}
 use Rattle.g_listing_laws.proofs.Gives.{Gives, Either, Ended, gives_give, gives_take, gives_bind, gives_after, gives_loop}
 use Rattle.g_listing_laws.proofs.BordersGiven.{Whatever}
 use Rattle.g_infer_laws.specs.OwnLines.{is_loop_line, is_case_line, is_frame_line, is_place_line, HasOwnLines, ReadsOwnLines}
 use Rattle.g_infer_laws.proofs.Facts.{some_is, both}
-use Rattle.g_infer_laws.proofs.OwnNodes.{IsNodeOwn, IsBodyOwn, IsBranchOwn, IsFrameOwn, AreFramesOwn, by_line, own-For, own-While, own-InPlace, own-Case, own-Sequence, vi_own}
+use Rattle.g_infer_laws.proofs.OwnNodes.{IsNodeOwn, IsBranchOwn, IsFrameOwn, AreFramesOwn, by_line, own-For, own-While, own-InPlace, own-Case, own-Sequence, vi_own}
 
 -- ---- phrases whose first tokens are known
 
@@ -126,9 +126,13 @@ border_passes border.FirstFrame = frame_passes true
 border_passes border.Frame = (gives_after λ w. gives_give (tunnel.Carry w.0 w.1) refl, frame_passes false)
 border_passes border.InPlace = (
   gives_after λ w. gives_give (tunnel.Tunnel w.0 w.1) refl,
-  (gives_after λ w. gives_give (tunnel.Last w.0 w.1) refl,
-  (gives_after λ r. gives_after λ w. gives_after λ x. gives_after λ same. gives_after λ code. gives_give (tunnel.Ref r w.0 w.1 same code) refl,
-  (gives_after λ a. gives_after λ i. gives_after λ w. gives_give (tunnel.Element a i w.0 w.1 w.2) refl, (gives_after λ k. gives_after λ c. gives_after λ w. gives_give (tunnel.Field k c w.0 w.1 w.2) refl, tt)))),
+  (
+    gives_after λ w. gives_give (tunnel.Last w.0 w.1) refl,
+    (
+      gives_after λ r. gives_after λ w. gives_after λ x. gives_after λ same. gives_after λ code. gives_give (tunnel.Ref r w.0 w.1 same code) refl,
+      (gives_after λ a. gives_after λ i. gives_after λ w. gives_give (tunnel.Element a i w.0 w.1 w.2) refl, (gives_after λ k. gives_after λ c. gives_after λ w. gives_give (tunnel.Field k c w.0 w.1 w.2) refl, tt)),
+    ),
+  ),
 )
 
 all_pass : (test : Tunnel → Bool) (ts : List Tunnel) → All (Passes test) ts → list_all test ts ≡ true

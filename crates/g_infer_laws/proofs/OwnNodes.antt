@@ -1,5 +1,5 @@
 -- The structures in a node, at every depth, have lines of their own alone, by the node's form.
-use Rattle.std.proofs.Common.{◌≡◌, ℕ, ◌+◌, Bool, true, false, ◌&&◌, List, [], ◌∷◌, map, length, refl, ap, sym, ◌∙◌, subst}
+use Rattle.std.proofs.Common.{◌≡◌, ℕ, ◌+◌, Bool, true, false, List, [], ◌∷◌, map, length, refl, sym, subst}
 use Rattle.std.specs.Prelude.{Some, None, IsTrue}
 use Rattle.std.specs.List.{All, list_all}
 use Rattle.std.proofs.lemmas.List.Elements.{All-nil, All-cons, All-head, All-tail, All-append}
@@ -85,10 +85,12 @@ by_line n k e is = record { lines = subst Own (sym e) (λ line d. All-cons IsOwn
 
 loop_own : (n : Node) (ts : List Tunnel) (body : Diagram) (k : (body finish : ℕ) → Kind) → lines_of n ≡ loop_lines ts (diagram_lines body) k
     → ((b f : ℕ) → has_own_lines (k b f) ≡ true) → IsBodyOwn body → IsNodeOwn n
-loop_own n ts body k e is a = record { lines = subst Own (sym e) (λ line d.
-    let start : ℕ = line + 1 + length ts in
-    let inner = diagram_lines body in
-    All-cons IsOwn (entry line d (k start (start + 1 + inner.count))) (inner.entries (start + 1) start) (is start (start + 1 + inner.count)) (body_own body a (start + 1) start)) }
+loop_own n ts body k e is a = record {
+  lines = subst Own (sym e) (λ line d.
+      let start : ℕ = line + 1 + length ts in
+      let inner = diagram_lines body in
+      All-cons IsOwn (entry line d (k start (start + 1 + inner.count))) (inner.entries (start + 1) start) (is start (start + 1 + inner.count)) (body_own body a (start + 1) start));
+}
 
 pub own-For : (count iteration : Wire) (ts : List Tunnel) (body : Diagram) → list_all is_loop_line ts ≡ true → IsBodyOwn body → IsNodeOwn (node.For count iteration ts body)
 own-For count iteration ts body own a =
@@ -104,15 +106,19 @@ own-InPlace ts body own a = loop_own (node.InPlace ts body) ts body (kind.InPlac
 pub own-Case : (selector : Wire) (ts : List Tunnel) (bs : List Branch) → list_all is_case_line ts ≡ true → All IsBranchOwn bs → IsNodeOwn (node.Case selector ts bs)
 own-Case selector ts bs own a =
     let ls = map branch_lines bs in
-    record { lines = subst Own (sym (by.lines-Case selector ts bs)) (λ line d.
-        let start : ℕ = line + 1 + length ts in
-        All-cons IsOwn (entry line d (kind.Case selector ts (arms start ls))) (branches_entries start ls) own (branches_own start bs a)) }
+    record {
+      lines = subst Own (sym (by.lines-Case selector ts bs)) (λ line d.
+          let start : ℕ = line + 1 + length ts in
+          All-cons IsOwn (entry line d (kind.Case selector ts (arms start ls))) (branches_entries start ls) own (branches_own start bs a));
+    }
 
 pub own-Sequence : (fs : List SequenceFrame) → AreFramesOwn true fs → IsNodeOwn (node.Sequence fs)
 own-Sequence fs a =
     let ls = map frame_lines fs in
-    record { lines = subst Own (sym (by.lines-Sequence fs)) (λ line d.
-        All-cons IsOwn (entry line d (kind.Sequence (parts (line + 1) ls))) (frames_entries (line + 1) ls) (parts_own true (line + 1) fs a) (frames_own true (line + 1) fs a)) }
+    record {
+      lines = subst Own (sym (by.lines-Sequence fs)) (λ line d.
+          All-cons IsOwn (entry line d (kind.Sequence (parts (line + 1) ls))) (frames_entries (line + 1) ls) (parts_own true (line + 1) fs a) (frames_own true (line + 1) fs a));
+    }
 
 -- ---- a VI
 

@@ -1,7 +1,7 @@
 -- What is known of a VI of a hierarchy in which none of the rules is broken.
 use Rattle.std.proofs.Common.{◌≡◌, inl, inr, ⊎_elim, ℕ, zero, suc, ◌+◌, ◌==◌, Bool, true, false, cond, not, ◌&&◌, ◌||◌, List, [], ◌∷◌, ◌++◌, map, filter, length, refl, ap, ◌∙◌, subst, arith}
 use Rattle.std.specs.Prelude.{Some, None, is_some, slice_get}
-use Rattle.std.specs.List.{All, AllByRecursion, Contains, list_any, flat_map}
+use Rattle.std.specs.List.{AllByRecursion, Contains, list_any, flat_map}
 use Rattle.std.specs.Ordering.{is_eq}
 use Rattle.std.specs.Str.{bytes_eq}
 use Rattle.std.proofs.lemmas.Bool.{eqb-true}
@@ -18,9 +18,9 @@ use Rattle.g_diagram.specs.Leads.{Leads}
 use Rattle.g_diagram.specs.Ports.{Port, ports_of, has_wire, sources, consumers, are_joined, same_wire}
 use Rattle.g_typing.specs.Types.{Types, place}
 use Rattle.g_typing.specs.Rows.{entry_misses, rowless}
-use Rattle.g_typing.specs.Typing.{IsTyping, called_panel}
+use Rattle.g_typing.specs.Typing.{IsTyping}
 use Rattle.g_typing.specs.Literals.{mistaken}
-use Rattle.g_typing.specs.Breaks.{broken, breaks_with, TypeBreak}
+use Rattle.g_typing.specs.Breaks.{broken, TypeBreak}
 use Rattle.g_typing.proofs.Ready.{IsOf}
 use Rattle.g_typing.proofs.Steps.{ok_at}
 use Rattle.g_rules_lines.specs.Arity.{fits_arity, miscounted}
@@ -242,10 +242,9 @@ module _ (h : Hierarchy) (main : List ℕ) (wiring : IsWiring h main []) (k : �
     -- each node is right
     pub right : (e : Entry) → IsOf e es → IsRight h.vis vi.panel types e.line e.diagram e.kind
     right e is =
-        let ok : ok_at types e.line e.diagram e.kind ≡ true = of_one (λ e. ok_at types e.line e.diagram e.kind ≡ true) es (rows es none_rowless) e is in
         record {
-          rows = ok;
-          fine = kind_fine types e.line e.diagram e.kind (of_one (λ e. has_own_lines e.kind ≡ true) es own_each e is) ok;
+          rows = of_one (λ e. ok_at types e.line e.diagram e.kind ≡ true) es (rows es none_rowless) e is;
+          fine = of_one (λ e. IsKindFine types e.diagram e.kind) es all_fine e is;
           counted = unnot (fits_arity known.arities e.kind) (of_one (λ e. not (fits_arity known.arities e.kind) ≡ false) es counted e is);
           located = of_one (λ e. names_no_object (names_object vi.panel) e.kind ≡ false) es located e is;
           called = of_one (λ e. names_no_vi known.arities e.kind ≡ false) es called e is;

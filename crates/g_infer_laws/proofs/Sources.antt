@@ -1,7 +1,7 @@
 -- Each named source of a VI is given by a step in which types are decided.
 use Rattle.std.proofs.Common.{ℕ, ◌+◌, Bool, true, false, List, [], ◌∷◌, ◌++◌, map, refl, inl, inr, ◌≡◌}
 use Rattle.std.specs.Prelude.{Option, Some, None}
-use Rattle.std.specs.List.{list_all}
+use Rattle.std.specs.List.{AllByRecursion, list_all}
 use Rattle.g_types.specs.declared.ty.Ty.{Ty}
 use Rattle.g_diagram.specs.declared.node.Tunnel.{Tunnel}
 use Rattle.g_diagram.specs.declared.node.Tunnel.TheVariants as line
@@ -17,8 +17,8 @@ use Rattle.g_typing.proofs.Only.{IsIn, entries_steps, vi_steps}
 use Rattle.g_typing.proofs.Roles.{nothing}
 use Rattle.g_typing.proofs.Names.{Giver}
 use Rattle.g_infer_laws.specs.OwnLines.{is_case_line}
-use Rattle.g_infer_laws.proofs.Facts.{refute, and_left, and_right}
-use Rattle.g_infer_laws.proofs.Held.{InEach, each_then, in_none, OperandsHold, LinesHold, lines_both}
+use Rattle.g_infer_laws.proofs.Facts.{refute, and_left, and_right, all_both, all_then}
+use Rattle.g_infer_laws.proofs.Held.{OperandsHold, LineHolds, LinesHold}
 use Rattle.g_infer_laws.proofs.Fine.{IsFine, AreFine, PartsFine, IsKindFine, AllFine}
 
 -- a named source is given
@@ -65,8 +65,12 @@ module _ (G : ℕ → List ℕ → Type 0) where
   from_given free d None t h = tt
   from_given free d (Some n) t h = h d n (inl (refl, refl))
 
-  in_each : (free : Bool) (w : Wire) (t : Option Ty) (bs : List ℕ) → InEach (λ b. Into G (given b w t)) bs → InEach (λ b. Sourced G true free b w) bs
-  in_each free w t bs h = each_then (λ b. Into G (given b w t)) (λ b. Sourced G true free b w) bs (λ b i. from_given free b w t i) h
+  in_each : (free : Bool) (w : Wire) (t : Option Ty) (bs : List ℕ) → AllByRecursion (λ b. Into G (given b w t)) bs → AllByRecursion (λ b. Sourced G true free b w) bs
+  in_each free w t bs h = all_then (λ b. Into G (given b w t)) (λ b. Sourced G true free b w) bs (λ b i. from_given free b w t i) h
+
+  in_none : (bs : List ℕ) → AllByRecursion (λ b. Unit {0}) bs
+  in_none [] = tt
+  in_none (b ∷ bs) = (tt, in_none bs)
 
   -- ---- outputs after inputs
 
@@ -92,7 +96,7 @@ module _ (G : ℕ → List ℕ → Type 0) where
   -- ---- border lines
 
   border_sourced : (M : Types) (ok : Bool) (l : Line) (b : ℕ) (before : Option ℕ) (t : Tunnel) → IsFine M l.outside before t
-      → InEach (λ x. Into G (line_inside nothing l.outside x before t)) l.inside → Into G (line_outside nothing ok l.outside b t) → OperandsHold (Sourced G) l (border t)
+      → AllByRecursion (λ x. Into G (line_inside nothing l.outside x before t)) l.inside → Into G (line_outside nothing ok l.outside b t) → OperandsHold (Sourced G) l (border t)
   border_sourced M ok l b before (line.Tunnel outer inner) fine ins outs = (tt, (in_each false inner _ l.inside ins, tt))
   border_sourced M ok l b before (line.Register initial inner next last) fine ins outs =
       (tt, (in_each false inner _ l.inside ins, (in_none l.inside, (from_given false l.outside last _ outs, tt))))
@@ -103,10 +107,19 @@ module _ (G : ℕ → List ℕ → Type 0) where
   border_sourced M ok l b before (line.Index array inner) fine ins outs = (tt, (in_each false inner _ l.inside ins, tt))
   border_sourced M ok l b before (line.Result outer default) fine ins outs = absurd fine
   border_sourced M ok l b before (line.Carry earlier inner) fine ins outs = (in_none l.before, (in_each false inner _ l.inside ins, tt))
-  border_sourced M ok l b before (line.Ref reference inner next same code) fine ins outs =
-      (tt, (in_each false inner _ l.inside ins, (in_none l.inside,
-      (from_given false l.outside same _ (into_left (given l.outside same _) (given l.outside code _) outs),
-      (from_given false l.outside code _ (into_right (given l.outside same _) (given l.outside code _) outs), tt)))))
+  border_sourced M ok l b before (line.Ref reference inner next same code) fine ins outs = (
+    tt,
+    (
+      in_each false inner _ l.inside ins,
+      (
+        in_none l.inside,
+        (
+          from_given false l.outside same _ (into_left (given l.outside same _) (given l.outside code _) outs),
+          (from_given false l.outside code _ (into_right (given l.outside same _) (given l.outside code _) outs), tt),
+        ),
+      ),
+    ),
+  )
   border_sourced M ok l b before (line.Element array index inner next outer) fine ins outs =
       (tt, (tt, (in_each false inner _ l.inside ins, (in_none l.inside, (from_given false l.outside outer _ outs, tt)))))
   border_sourced M ok l b before (line.Field k cluster inner next outer) fine ins outs =
@@ -128,28 +141,28 @@ module _ (G : ℕ → List ℕ → Type 0) where
   -- ---- cases
 
   case_line_sourced : (l : Line) (k : ℕ) (arms : List Arm) (t : Tunnel) → is_case_line t ≡ true
-      → InEach (λ x. Into G (line_inside nothing l.outside x None t)) l.inside → Into G (result_given nothing l.outside k arms t) → OperandsHold (Sourced G) l (case_border t)
+      → AllByRecursion (λ x. Into G (line_inside nothing l.outside x None t)) l.inside → Into G (result_given nothing l.outside k arms t) → OperandsHold (Sourced G) l (case_border t)
   case_line_sourced l k arms (line.Tunnel outer inner) own ins result = (tt, (in_each true inner _ l.inside ins, tt))
   case_line_sourced l k arms (line.Result outer default) own ins result = (from_given false l.outside outer _ result, tt)
   case_line_sourced l k arms _ own ins result = absurd (refute own)
 
   case_lines_sourced : (e : Entry) (bs : List ℕ) (arms : List Arm) (k l : ℕ) (ts : List Tunnel) → list_all is_case_line ts ≡ true
-      → InEach (λ x. Into G (lines_inside nothing e.diagram x None ts)) bs → IntoSteps (results_steps e.diagram k arms ts)
+      → AllByRecursion (λ x. Into G (lines_inside nothing e.diagram x None ts)) bs → IntoSteps (results_steps e.diagram k arms ts)
       → LinesHold (Sourced G) (border_lines e bs [] case_border l ts)
   case_lines_sourced e bs arms k l [] own ins results = tt
   case_lines_sourced e bs arms k l (t ∷ ts) own ins results = (
     case_line_sourced (record { line = l; node = e.line; outside = e.diagram; inside = bs; before = []; operands = case_border t }) k arms t
         (and_left (is_case_line t) (list_all is_case_line ts) own)
-        (each_then (λ x. Into G (lines_inside nothing e.diagram x None (t ∷ ts))) (λ x. Into G (line_inside nothing e.diagram x None t)) bs
+        (all_then (λ x. Into G (lines_inside nothing e.diagram x None (t ∷ ts))) (λ x. Into G (line_inside nothing e.diagram x None t)) bs
         (λ x i. into_left (line_inside nothing e.diagram x None t) (lines_inside nothing e.diagram x None ts) i) ins)
         (results (result_step e.diagram k arms t) (inl refl)),
     case_lines_sourced e bs arms (next_result t k) (l + 1) ts (and_right (is_case_line t) (list_all is_case_line ts) own)
-        (each_then (λ x. Into G (lines_inside nothing e.diagram x None (t ∷ ts))) (λ x. Into G (lines_inside nothing e.diagram x None ts)) bs
+        (all_then (λ x. Into G (lines_inside nothing e.diagram x None (t ∷ ts))) (λ x. Into G (lines_inside nothing e.diagram x None ts)) bs
         (λ x i. into_right (line_inside nothing e.diagram x None t) (lines_inside nothing e.diagram x None ts) i) ins)
         (λ s is. results s (inr is)),
   )
 
-  in_arms : (d : ℕ) (ts : List Tunnel) (arms : List Arm) → IntoSteps (arms_steps d ts arms) → InEach (λ x. Into G (lines_inside nothing d x None ts)) (map (λ a. a.body) arms)
+  in_arms : (d : ℕ) (ts : List Tunnel) (arms : List Arm) → IntoSteps (arms_steps d ts arms) → AllByRecursion (λ x. Into G (lines_inside nothing d x None ts)) (map (λ a. a.body) arms)
   in_arms d ts [] h = tt
   in_arms d ts (arm ∷ arms) h = (h (inside d arm.body None ts) (inl refl), in_arms d ts arms (λ s is. h s (inr is)))
 
@@ -167,7 +180,7 @@ module _ (G : ℕ → List ℕ → Type 0) where
       → LinesHold (Sourced G) (parts_lines e numbers ps)
   parts_sourced M e before numbers [] fine h = tt
   parts_sourced M e before numbers (p ∷ ps) fine h =
-      lines_both (Sourced G) (border_lines e (p.body ∷ []) numbers border (p.body + 1) p.lines) (parts_lines e (p.body ∷ []) ps)
+      all_both (LineHolds (Sourced G)) (border_lines e (p.body ∷ []) numbers border (p.body + 1) p.lines) (parts_lines e (p.body ∷ []) ps)
       (borders_sourced M true e p.body before numbers (p.body + 1) p.lines fine.0
       (h (inside e.diagram p.body before p.lines) (inl refl)) (h (frame_outside e.diagram p.body p.lines) (inr (inl refl))))
       (parts_sourced M e (Some p.body) (p.body ∷ []) ps fine.1 (λ s is. h s (inr (inr is))))
@@ -205,7 +218,7 @@ module _ (G : ℕ → List ℕ → Type 0) where
   )
   kind_sourced M free called objects e (Case selector ts arms) fine h = (
     (tt, tt),
-    lines_both (Sourced G) (border_lines e (map (λ a. a.body) arms) [] case_border (e.line + 1) ts) (map (give_line e) arms)
+    all_both (LineHolds (Sourced G)) (border_lines e (map (λ a. a.body) arms) [] case_border (e.line + 1) ts) (map (give_line e) arms)
         (case_lines_sourced e (map (λ a. a.body) arms) arms 0 (e.line + 1) ts fine
         (in_arms e.diagram ts arms (λ s is. h s (in_left s (arms_steps e.diagram ts arms) (results_steps e.diagram 0 arms ts) is)))
         (λ s is. h s (in_right s (arms_steps e.diagram ts arms) (results_steps e.diagram 0 arms ts) is)))
@@ -222,7 +235,7 @@ module _ (G : ℕ → List ℕ → Type 0) where
   entries_sourced M free called objects [] fine h = tt
   entries_sourced M free called objects (e ∷ es) fine h =
       let own : List Step = kind_steps called objects e.line e.diagram e.kind in
-      lines_both (Sourced G) (kind_lines free e e.kind) (entries_lines free es)
+      all_both (LineHolds (Sourced G)) (kind_lines free e e.kind) (entries_lines free es)
       (kind_sourced M free called objects e e.kind fine.0 (λ s is. h s (in_left s own (entries_steps called objects es) is)))
       (entries_sourced M free called objects es fine.1 (λ s is. h s (in_right s own (entries_steps called objects es) is)))
 
@@ -239,6 +252,6 @@ pub vi_sourced : (M : Types) (free : Freedom) (called : Callees) (panel : List P
     → LinesHold (Sourced (Giver (vi_steps called panel es))) (control_lines 1 panel ++ entries_lines free es)
 vi_sourced M free called panel es fine =
     let G : ℕ → List ℕ → Type 0 = Giver (vi_steps called panel es) in
-    lines_both (Sourced G) (control_lines 1 panel) (entries_lines free es)
+    all_both (LineHolds (Sourced G)) (control_lines 1 panel) (entries_lines free es)
     (controls_sourced G 1 panel (λ z n g. record { step = fixed (controls_given panel); is = inl refl; gives = g }))
     (entries_sourced G M free called (panel_type panel) es fine (λ s is z n g. record { step = s; is = inr is; gives = g }))
