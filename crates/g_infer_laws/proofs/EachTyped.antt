@@ -1,5 +1,6 @@
 -- Each wire of a VI has a type, where none of the rules is broken: by the order of the steps in which types are decided.
 use Rattle.std.proofs.Common.{◌≡◌, inl, inr, ⊎_elim, ℕ, Bool, true, false, List, [], ◌∷◌, ◌++◌, refl, ap, ◌∙◌, subst}
+use Rattle.std.proofs.lemmas.Bool.{false≢true}
 use Rattle.std.specs.Prelude.{Option, Some, None, is_some}
 use Rattle.std.specs.List.{All}
 use Rattle.std.proofs.lemmas.List.Elements.{All-nil, All-cons, All-from_recursion}
@@ -19,7 +20,7 @@ use Rattle.g_typing.proofs.Names.{Giver, vi_named, named_in, same_given}
 use Rattle.g_typing.proofs.Ready.{IsOf, Ready, ready}
 use Rattle.g_typing.proofs.Agreed.{all_ready}
 use Rattle.g_infer_laws.specs.Wires.{HasType, EachWireTyped}
-use Rattle.g_infer_laws.proofs.Facts.{refute, all_both, all_right}
+use Rattle.g_infer_laws.proofs.Facts.{all_both, all_right}
 use Rattle.g_infer_laws.proofs.Held.{LineHolds, LinesHold, PortsHold, lines_of_one, to_ports, from_ports}
 use Rattle.g_infer_laws.proofs.Sources.{Sourced, vi_sourced}
 use Rattle.g_infer_laws.proofs.Rules.{Fed, IsRight, consumers_fed, none_turns, right, all_fine}
@@ -93,7 +94,7 @@ module _ (vis : List Vi) (vi : Vi) (types : Types) where
         steps_typed (s ∷ ss) each = all_both GivesType (s.gives types) (all_gives types ss) (each s (inl refl)) (steps_typed ss (λ t is. each t (inr is)))
 
 the_type : (o : Option Ty) → is_some o ≡ true → (t : Ty) × (o ≡ Some t)
-the_type None some = absurd (refute some)
+the_type None some = absurd (false≢true some)
 the_type (Some t) some = (t, refl)
 
 at_port : (G : ℕ → List ℕ → Type 0) (s free : Bool) (d : ℕ) (w : Wire) (n : List ℕ) → Sourced G s free d w → Fed G s free d w → w ≡ Some n → G d n

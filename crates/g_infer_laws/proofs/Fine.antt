@@ -1,6 +1,7 @@
 -- Lines that give each of their sources a type where their operands have types: where no row is missing, and each structure has lines of its
 -- own alone.
 use Rattle.std.proofs.Common.{◌≡◌, ℕ, ◌+◌, Bool, true, false, not, List, [], ◌∷◌, ◌++◌, length, refl, ap, arith}
+use Rattle.std.proofs.lemmas.Bool.{false≢true}
 use Rattle.std.specs.Prelude.{if◌then◌else◌, Option, Some, None, is_some}
 use Rattle.std.specs.List.{AllByRecursion, Contains, list_all}
 use Rattle.std.proofs.lemmas.List.Elements.{Contains-append_left, Contains-append_right}
@@ -16,7 +17,7 @@ use Rattle.g_diagram.specs.Lines.{Part, Entry, Kind, Apply, Shared, Obtain, Loop
 use Rattle.g_typing.specs.Types.{Types, place, wire_type, wire_types, or_unwired, wire_at}
 use Rattle.g_typing.specs.Rows.{may_be, unless, has_elements, names_value, has_part, outputs_fit, row_misses, primitive_misses, fits_shared, line_misses, lines_miss, stop_operand, kind_misses, is_none_of}
 use Rattle.g_infer_laws.specs.OwnLines.{is_loop_line, is_case_line, is_frame_line, is_place_line, have_frame_lines, has_own_lines}
-use Rattle.g_infer_laws.proofs.Facts.{refute, and_left, and_right}
+use Rattle.g_wires.proofs.Found.{and_left, and_right}
 
 -- ---- no place is told: then the node has rows
 
@@ -40,7 +41,7 @@ if_holds b p e = ap (λ (c : Bool). is_none_of (if c then [] else p ∷ [])) e
 
 both_none : (xs ys : List Place) → is_none_of xs ≡ true → is_none_of ys ≡ true → is_none_of (xs ++ ys) ≡ true
 both_none [] ys h g = g
-both_none (x ∷ xs) ys h g = absurd (refute h)
+both_none (x ∷ xs) ys h g = absurd (false≢true h)
 
 module _ (M : Types) (v : ℕ) where
   unless_none : (o : Option Ty) (kind : Ty → Bool) (l k : ℕ) → NoneOf v (unless o kind (place v l k)) → is_none_of (unless o kind (place 0 l k)) ≡ true
@@ -93,11 +94,11 @@ module _ (M : Types) (v : ℕ) where
 
 first_none : (xs ys : List Place) → is_none_of (xs ++ ys) ≡ true → is_none_of xs ≡ true
 first_none [] ys h = refl
-first_none (x ∷ xs) ys h = absurd (refute h)
+first_none (x ∷ xs) ys h = absurd (false≢true h)
 
 then_none : (xs ys : List Place) → is_none_of (xs ++ ys) ≡ true → is_none_of ys ≡ true
 then_none [] ys h = h
-then_none (x ∷ xs) ys h = absurd (refute h)
+then_none (x ∷ xs) ys h = absurd (false≢true h)
 
 pub test_passed : (b : Bool) (p : Place) → is_none_of (if b then [] else p ∷ []) ≡ true → b ≡ true
 test_passed true p h = refl
@@ -138,7 +139,7 @@ module _ (M : Types) where
   loop_line_fine d b l (line.Kept t inner next last) own none = tt
   loop_line_fine d b l (line.Last inner outer) own none = tt
   loop_line_fine d b l (line.Gather inner outer) own none = tt
-  loop_line_fine d b l _ own none = absurd (refute own)
+  loop_line_fine d b l _ own none = absurd (false≢true own)
 
   place_line_fine : (d b l : ℕ) (t : Tunnel) → is_place_line t ≡ true → is_none_of (line_misses M 0 d b l t) ≡ true → IsFine M d None t
   place_line_fine d b l (line.Tunnel outer inner) own none = tt
@@ -148,7 +149,7 @@ module _ (M : Types) where
       test_passed (may_be (wire_type M d array) has_elements) (place 0 l 1)
       (first_none (unless (wire_type M d array) has_elements (place 0 l 1)) (unless (wire_type M d index) is_num (place 0 l 2)) none)
   place_line_fine d b l (line.Field k cluster inner next outer) own none = test_passed (may_be (wire_type M d cluster) (has_part k)) (place 0 l 1) none
-  place_line_fine d b l _ own none = absurd (refute own)
+  place_line_fine d b l _ own none = absurd (false≢true own)
 
   all_fine : (is_own : Tunnel → Bool) → ((d b l : ℕ) (t : Tunnel) → is_own t ≡ true → is_none_of (line_misses M 0 d b l t) ≡ true → IsFine M d None t)
       → (d b l : ℕ) (ts : List Tunnel) → list_all is_own ts ≡ true → is_none_of (lines_miss M 0 d b l ts) ≡ true → AreFine M d None ts
@@ -161,9 +162,9 @@ module _ (M : Types) where
   frame_line_fine : (d : ℕ) (before : Option ℕ) (t : Tunnel) → is_frame_line (not (is_some before)) t ≡ true → IsFine M d before t
   frame_line_fine d before (line.Tunnel outer inner) own = tt
   frame_line_fine d before (line.Last inner outer) own = tt
-  frame_line_fine d None (line.Carry earlier inner) own = absurd (refute own)
+  frame_line_fine d None (line.Carry earlier inner) own = absurd (false≢true own)
   frame_line_fine d (Some b) (line.Carry earlier inner) own = refl
-  frame_line_fine d before _ own = absurd (refute own)
+  frame_line_fine d before _ own = absurd (false≢true own)
 
   frame_fine : (d : ℕ) (before : Option ℕ) (ts : List Tunnel) → list_all (is_frame_line (not (is_some before))) ts ≡ true → AreFine M d before ts
   frame_fine d before [] own = tt

@@ -4,7 +4,7 @@ use Rattle.std.specs.Prelude.{if◌then◌else◌, Option, Some, None, is_some, 
 use Rattle.std.specs.List.{AllByRecursion, list_all, list_any}
 use Rattle.std.specs.Option.{option_map}
 use Rattle.std.specs.Str.{bytes_eq}
-use Rattle.std.proofs.lemmas.Bool.{eqb-true}
+use Rattle.std.proofs.lemmas.Bool.{eqb-true, false≢true, not-false}
 use Rattle.g_types.specs.declared.ty.Ty.{Ty}
 use Rattle.g_types.specs.declared.ty.Ty.TheVariants as ty
 use Rattle.g_values.specs.declared.primitive.Primitive.{Primitive}
@@ -39,7 +39,8 @@ use Rattle.g_rules_lines.specs.CaseResults.{is_given_at, gives_result, ungiven_i
 use Rattle.g_rules_lines.specs.PanelObjects.{names_object}
 use Rattle.g_rules_lines.specs.Spots.{Spot, spot_at}
 use Rattle.g_infer_laws.specs.OwnLines.{is_case_line}
-use Rattle.g_infer_laws.proofs.Facts.{refute, and_left, and_right, unnot, nil_left, nil_right, all_both, all_left, all_right}
+use Rattle.g_wires.proofs.Found.{and_left, and_right}
+use Rattle.g_infer_laws.proofs.Facts.{nil_left, nil_right, all_both, all_left, all_right}
 use Rattle.g_infer_laws.proofs.Held.{OperandsHold, LineHolds, LinesHold}
 use Rattle.g_infer_laws.proofs.Fine.{IsFine, AreFine, PartsFine, test_passed}
 use Rattle.g_infer_laws.proofs.Rules.{Fed, IsRight}
@@ -91,7 +92,7 @@ same_count (Between least most) m n one a b fit = absurd one
 same_count Any m n one a b fit = eqb-true m n fit
 
 row_gives : (l : ℕ) (p : Primitive) (i m : ℕ) (ts : List Ty) (o : Option (List Ty)) → row_of p ts ≡ o → is_none_of (row_misses 0 l p m ts o) ≡ true → fits (primitive_row p) i m ≡ true → Gives o m
-row_gives l p i m ts None e none fit = absurd (refute none)
+row_gives l p i m ts None e none fit = absurd (false≢true none)
 row_gives l p i m ts (Some us) e none fit = (
   us,
   refl,
@@ -104,7 +105,7 @@ primitive_gives : (l : ℕ) (p : Primitive) (i m : ℕ) (ts : List Ty) → is_no
 primitive_gives l p i m ts none fit = row_gives l p i m ts (row_of p ts) refl none fit
 
 with_code_gives : (o : Option Ty) (m : ℕ) → is_some o ≡ true → (m == 2) ≡ true → Gives (with_code o) m
-with_code_gives None m some fit = absurd (refute some)
+with_code_gives None m some fit = absurd (false≢true some)
 with_code_gives (Some t) m some fit = (t ∷ whole ∷ [], refl, eqb-true m 2 fit)
 
 shared_gives : (p : SharedOp) (q : Ty) (i m : ℕ) → fits_shared p q ≡ true → fits (shared_row p) i m ≡ true → Gives (shared_types p q) m
@@ -117,12 +118,12 @@ shared_gives shared.DelRef q i m may fit = with_code_gives (referred q) m may (a
 
 -- a shared operation has an input
 has_input : (p : SharedOp) (m : ℕ) → fits (shared_row p) 0 m ≡ true → ⊥
-has_input shared.Enqueue m h = refute h
-has_input shared.Dequeue m h = refute h
-has_input shared.Release m h = refute h
-has_input shared.Size m h = refute h
-has_input shared.NewRef m h = refute h
-has_input shared.DelRef m h = refute h
+has_input shared.Enqueue m h = false≢true h
+has_input shared.Dequeue m h = false≢true h
+has_input shared.Release m h = false≢true h
+has_input shared.Size m h = false≢true h
+has_input shared.NewRef m h = false≢true h
+has_input shared.DelRef m h = false≢true h
 
 -- ---- panels
 
@@ -144,7 +145,7 @@ or_later true c h e = absurd cc
 or_later false c h e = h
 
 object_typed : (items : List PanelItem) (name : List ℕ) → names_object items name ≡ true → is_some (panel_type items name) ≡ true
-object_typed [] name h = absurd (refute h)
+object_typed [] name h = absurd (false≢true h)
 object_typed (Control other t required default out ∷ items) name h =
     if_same (bytes_eq other name) t (panel_type items name) (λ e. object_typed items name (or_later (bytes_eq other name) (names_object items name) h e))
 object_typed (Indicator other t w ∷ items) name h =
@@ -153,15 +154,15 @@ object_typed (Indicator other t w ∷ items) name h =
 -- ---- types of parts
 
 then_known : (o : Option Ty) (f : Ty → Option Ty) → is_some o ≡ true → may_be o (λ t. is_some (f t)) ≡ true → is_some (then_type o f) ≡ true
-then_known None f some may = absurd (refute some)
+then_known None f some may = absurd (false≢true some)
 then_known (Some t) f some may = may
 
 whole_known : (o : Option Ty) → is_some o ≡ true → is_some (then_type o (λ t. Some whole)) ≡ true
-whole_known None some = absurd (refute some)
+whole_known None some = absurd (false≢true some)
 whole_known (Some t) some = refl
 
 array_known : (o : Option Ty) → is_some o ≡ true → is_some (array_of o) ≡ true
-array_known None some = absurd (refute some)
+array_known None some = absurd (false≢true some)
 array_known (Some t) some = refl
 
 -- the diagrams before a frame
@@ -190,7 +191,7 @@ module _ (M : Types) (G : ℕ → List ℕ → Type 0) where
   Typed s = AllIfGiven s.reads → HaveTypes (s.gives M)
 
   wire_known : (d : ℕ) (w : Wire) → Fed G false false d w → IfGiven d w → is_some (wire_type M d w) ≡ true
-  wire_known d None fed has = absurd (refute fed)
+  wire_known d None fed has = absurd (false≢true fed)
   wire_known d (Some n) fed has = has fed
 
   -- ---- border lines
@@ -198,7 +199,7 @@ module _ (M : Types) (G : ℕ → List ℕ → Type 0) where
   carry_typed : (e : Entry) (b : ℕ) (before : Option ℕ) (l : ℕ) (earlier inner : Wire) → is_some before ≡ true
       → OperandsHold (Fed G) (at_border e b before l (line.Carry earlier inner)) (border (line.Carry earlier inner)) → AllIfGiven (carry_reads before earlier)
       → HaveTypes (given b inner (carried M before earlier))
-  carry_typed e b None l earlier inner some fed has = absurd (refute some)
+  carry_typed e b None l earlier inner some fed has = absurd (false≢true some)
   carry_typed e b (Some y) l earlier inner some fed has = one_typed b inner (wire_type M y earlier) (wire_known y earlier fed.0.0 has.0)
 
   inside_typed : (e : Entry) (b : ℕ) (before : Option ℕ) (l : ℕ) (t : Tunnel) → IsFine M e.diagram before t → OperandsHold (Fed G) (at_border e b before l t) (border t)
@@ -259,7 +260,7 @@ module _ (M : Types) (G : ℕ → List ℕ → Type 0) where
       → AllIfGiven (inside_reads e.diagram None t) → HaveTypes (line_inside M e.diagram b None t)
   case_line_typed e b bs l (line.Tunnel outer inner) own fed has = one_typed b inner (wire_type M e.diagram outer) (wire_known e.diagram outer fed.0 has.0)
   case_line_typed e b bs l (line.Result outer default) own fed has = tt
-  case_line_typed e b bs l _ own fed has = absurd (refute own)
+  case_line_typed e b bs l _ own fed has = absurd (false≢true own)
 
   case_lines_typed : (e : Entry) (b : ℕ) (bs : List ℕ) (l : ℕ) (ts : List Tunnel) → list_all is_case_line ts ≡ true
       → LinesHold (Fed G) (border_lines e bs [] case_border l ts) → AllIfGiven (all_inside_reads e.diagram None ts) → HaveTypes (lines_inside M e.diagram b None ts)
@@ -292,7 +293,7 @@ module _ (M : Types) (G : ℕ → List ℕ → Type 0) where
 
   result_known : (e : Entry) (k : ℕ) (arms : List Arm) → LinesHold (Fed G) (map (give_line e) arms) → list_any (gives_result k) arms ≡ true → AllIfGiven (result_reads k arms)
       → is_some (result_type M k arms) ≡ true
-  result_known e k [] fed any has = absurd (refute any)
+  result_known e k [] fed any has = absurd (false≢true any)
   result_known e k (arm ∷ arms) fed any has =
       one_result arm.body (wire_at arm.gives k) (result_type M k arms) (given_fed e arm arm.gives k fed.0) has.0
       (λ none. result_known e k arms fed.1 (or_later (gives_result k arm) (list_any (gives_result k) arms) any (is_wired_at (slice_get arm.gives k) ∙ none)) has.1)
@@ -317,7 +318,7 @@ module _ (M : Types) (G : ℕ → List ℕ → Type 0) where
       (result_known e k arms fed (some_gives l k default arms (nil_left (ungiven_at l k default arms) (ungiven (l + 1) (k + 1) arms ts) told)) has))
   results_typed e arms fed l k (line.Result outer default ∷ ts) own told s (inr is) =
       results_typed e arms fed (l + 1) (k + 1) ts own (nil_right (ungiven_at l k default arms) (ungiven (l + 1) (k + 1) arms ts) told) s is
-  results_typed e arms fed l k (_ ∷ ts) own told s is = absurd (refute own)
+  results_typed e arms fed l k (_ ∷ ts) own told s is = absurd (false≢true own)
 
   -- ---- frames
 
@@ -344,7 +345,7 @@ module _ (M : Types) (G : ℕ → List ℕ → Type 0) where
   inputs_known l (w ∷ ws) os fed has = one (wire_type M l.outside w) refl (wire_known l.outside w fed.0 has.0) (inputs_known l ws os fed.1 has.1)
     where
       one : (o : Option Ty) → wire_type M l.outside w ≡ o → is_some o ≡ true → (ts : List Ty) × (wire_types M l.outside ws ≡ Some ts) → (ts : List Ty) × (wire_types M l.outside (w ∷ ws) ≡ Some ts)
-      one None q some rest = absurd (refute some)
+      one None q some rest = absurd (false≢true some)
       one (Some t) q some rest = (t ∷ rest.0, rw (q) (rw (rest.1) refl))
 
   apply_typed : (l : Line) (p : Primitive) (ins outs : List Wire) → is_none_of (kind_misses M 0 l.line l.outside (Apply p ins outs)) ≡ true
@@ -365,7 +366,7 @@ module _ (M : Types) (G : ℕ → List ℕ → Type 0) where
   first_fed l p (w ∷ ws) m os fit fed = fed.0
 
   shared_known : (o : Option Ty) (p : SharedOp) (i m : ℕ) → is_some o ≡ true → may_be o (fits_shared p) ≡ true → fits (shared_row p) i m ≡ true → Gives (shared_after p o) m
-  shared_known None p i m some may fit = absurd (refute some)
+  shared_known None p i m some may fit = absurd (false≢true some)
   shared_known (Some t) p i m some may fit = shared_gives p t i m may fit
 
   shared_typed : (l : Line) (p : SharedOp) (ins outs : List Wire) → is_none_of (kind_misses M 0 l.line l.outside (Shared p ins outs)) ≡ true
@@ -394,7 +395,7 @@ module _ (M : Types) (G : ℕ → List ℕ → Type 0) where
       subst Typed q (λ has. subst (λ (b : Bool). HaveTypes (given e.diagram out (kept_if b (Some (ty.QueueRef item))))) (sym right.rows) (one_typed e.diagram out (Some (ty.QueueRef item)) refl))
   kind_typed vis panel free e (Obtain queue size item out) right fed s (inr q) = absurd q
   kind_typed vis panel free e (Read object out) right fed s (inl q) =
-      subst Typed q (λ has. one_typed e.diagram out (panel_type panel object) (object_typed panel object (unnot (names_object panel object) right.located)))
+      subst Typed q (λ has. one_typed e.diagram out (panel_type panel object) (object_typed panel object (not-false (names_object panel object) right.located)))
   kind_typed vis panel free e (Read object out) right fed s (inr q) = absurd q
   kind_typed vis panel free e (Write object input) right fed s is = absurd is
   kind_typed vis panel free e (Call name ins outs) right fed s (inl q) =

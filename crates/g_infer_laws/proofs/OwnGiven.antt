@@ -1,5 +1,7 @@
 -- The structures of a listing have lines of their own alone.
 use Rattle.std.proofs.Common.{◌≡◌, ℕ, zero, suc, Bool, true, false, List, [], ◌∷◌, Option, Some, None, codes, refl, subst, inl, inr, ◌⊎◌}
+use Rattle.std.proofs.lemmas.Bool.{and_from}
+use Rattle.std.proofs.lemmas.Option.{same_Some}
 use Rattle.std.specs.Prelude.{if◌then◌else◌}
 use Rattle.std.specs.List.{All, AllByRecursion, list_all}
 use Rattle.std.specs.Str.{bytes_eq}
@@ -43,7 +45,6 @@ use Rattle.g_listing_grammar.specs.Listing.{Begin, body_first, body_item, nodes_
 use Rattle.g_listing_laws.proofs.Gives.{Gives, Either, Ended, gives_give, gives_take, gives_bind, gives_after, gives_loop}
 use Rattle.g_listing_laws.proofs.BordersGiven.{Whatever}
 use Rattle.g_infer_laws.specs.OwnLines.{is_loop_line, is_case_line, is_frame_line, is_place_line, HasOwnLines, ReadsOwnLines}
-use Rattle.g_infer_laws.proofs.Facts.{some_is, both}
 use Rattle.g_infer_laws.proofs.OwnNodes.{IsNodeOwn, IsBranchOwn, IsFrameOwn, AreFramesOwn, by_line, own-For, own-While, own-InPlace, own-Case, own-Sequence, vi_own}
 
 -- ---- phrases whose first tokens are known
@@ -66,7 +67,7 @@ lookup_known P [] all w a e = absurd cc
 lookup_known {A} P (row ∷ rows) all w a e = by (bytes_eq w row.0) e (lookup_known P rows all.1 w a)
   where
     by : (b : Bool) → (if b then Some row.1 else lookup rows w) ≡ Some a → (lookup rows w ≡ Some a → P a) → P a
-    by true f more = subst P (some_is row.1 a f) all.0
+    by true f more = subst P (same_Some row.1 a f) all.0
     by false f more = more f
 
 word_known : {A : Type 0} (P : A → Type 0) (rows : List (List ℕ × A)) → AllByRecursion (λ row. P row.1) rows → (t : Token) (a : A) → word_in rows t ≡ Some a → P a
@@ -137,7 +138,7 @@ border_passes border.InPlace = (
 
 all_pass : (test : Tunnel → Bool) (ts : List Tunnel) → All (Passes test) ts → list_all test ts ≡ true
 all_pass test [] a = refl
-all_pass test (t ∷ ts) a = both (test t) (list_all test ts) (All-head (Passes test) t ts a) (all_pass test ts (All-tail (Passes test) t ts a))
+all_pass test (t ∷ ts) a = and_from (test t) (list_all test ts) (All-head (Passes test) t ts a) (all_pass test ts (All-tail (Passes test) t ts a))
 
 lines_pass : (b : Border) (stop : List ℕ) → Gives (Ended (Passes (line_at b)) Whatever) (lines_to b stop)
 lines_pass b stop = gives_known (Passes (line_at b)) Whatever (or_else (word_in (lines_of b)) (word stop)) line_or_end known

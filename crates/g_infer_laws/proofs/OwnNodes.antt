@@ -1,5 +1,6 @@
 -- The structures in a node, at every depth, have lines of their own alone, by the node's form.
 use Rattle.std.proofs.Common.{◌≡◌, ℕ, ◌+◌, Bool, true, false, List, [], ◌∷◌, map, length, refl, sym, subst}
+use Rattle.std.proofs.lemmas.Bool.{and_from}
 use Rattle.std.specs.Prelude.{Some, None, IsTrue}
 use Rattle.std.specs.List.{All, list_all}
 use Rattle.std.proofs.lemmas.List.Elements.{All-nil, All-cons, All-head, All-tail, All-append}
@@ -17,7 +18,6 @@ use Rattle.g_diagram.specs.Lines as kind
 use Rattle.g_diagram.proofs.LineLemmas.{diagram_lines, branch_lines, frame_lines, case_lines, sequence_lines}
 use Rattle.g_diagram.proofs.LineLemmas as by
 use Rattle.g_infer_laws.specs.OwnLines.{is_loop_line, is_case_line, is_frame_line, is_place_line, have_frame_lines, has_own_lines, HasOwnLines}
-use Rattle.g_infer_laws.proofs.Facts.{both}
 
 abbrev IsOwn : Entry → Type 0
 IsOwn e = IsTrue (has_own_lines e.kind)
@@ -74,7 +74,7 @@ frames_own first line (f ∷ fs) a =
 parts_own : (first : Bool) (line : ℕ) (fs : List SequenceFrame) → AreFramesOwn first fs → have_frame_lines first (parts line (map frame_lines fs)) ≡ true
 parts_own first line [] a = refl
 parts_own first line (f ∷ fs) a =
-    both (list_all (is_frame_line first) (frame_lines f).lines) (have_frame_lines false (parts (line + frame_count (frame_lines f)) (map frame_lines fs)))
+    and_from (list_all (is_frame_line first) (frame_lines f).lines) (have_frame_lines false (parts (line + frame_count (frame_lines f)) (map frame_lines fs)))
     (subst (λ (l : FrameLines). list_all (is_frame_line first) l.lines ≡ true) (sym (by.lines-frame f)) a.0.lines)
     (parts_own false (line + frame_count (frame_lines f)) fs a.1)
 

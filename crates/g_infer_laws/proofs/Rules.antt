@@ -1,10 +1,11 @@
 -- What is known of a VI of a hierarchy in which none of the rules is broken.
 use Rattle.std.proofs.Common.{◌≡◌, inl, inr, ⊎_elim, ℕ, zero, suc, ◌+◌, ◌==◌, Bool, true, false, cond, not, ◌&&◌, ◌||◌, List, [], ◌∷◌, ◌++◌, map, filter, length, refl, ap, ◌∙◌, subst, arith}
+use Rattle.std.proofs.lemmas.Option.{same_Some}
 use Rattle.std.specs.Prelude.{Some, None, is_some, slice_get}
 use Rattle.std.specs.List.{AllByRecursion, Contains, list_any, flat_map}
 use Rattle.std.specs.Ordering.{is_eq}
 use Rattle.std.specs.Str.{bytes_eq}
-use Rattle.std.proofs.lemmas.Bool.{eqb-true}
+use Rattle.std.proofs.lemmas.Bool.{eqb-true, false≢true, or_cases, or_right, not-false}
 use Rattle.std.proofs.lemmas.List.Elements.{Contains-append_left, Contains-append_right, recursion_from_All}
 use Rattle.std.proofs.lemmas.List.Folds.{list_any-append}
 use Rattle.std.proofs.lemmas.Slice.Eq.{bytes_eq-Decides}
@@ -41,7 +42,8 @@ use Rattle.g_wires.specs.Spots.{spot}
 use Rattle.g_wires.specs.UnusedSources.{unused}
 use Rattle.g_wires.specs.Unwired.{is_missing, unwired}
 use Rattle.g_infer_laws.specs.OwnLines.{has_own_lines, HasOwnLines}
-use Rattle.g_infer_laws.proofs.Facts.{refute, and_left, and_right, either, or_second, unnot, some_is, nil_left, nil_right, of_one}
+use Rattle.g_wires.proofs.Found.{and_left, and_right}
+use Rattle.g_infer_laws.proofs.Facts.{nil_left, nil_right, of_one}
 use Rattle.g_infer_laws.proofs.Held.{PortsHold}
 use Rattle.g_infer_laws.proofs.Fine.{NoneOf, none_left, none_right, kind_none, IsKindFine, AllFine, kind_fine}
 use Rattle.g_infer_laws.proofs.Sources.{Sourced}
@@ -55,14 +57,14 @@ no_front : (xs ys : List Break) → NoBreak (xs ++ ys) → NoBreak xs
 no_front xs ys none b has = none b (list_any-append (λ c. is_eq (break_cmp b c)) xs ys ∙ ap (λ v. v || has_break ys b) has)
 
 no_back : (xs ys : List Break) → NoBreak (xs ++ ys) → NoBreak ys
-no_back xs ys none b has = none b (list_any-append (λ c. is_eq (break_cmp b c)) xs ys ∙ or_second (has_break xs b) (has_break ys b) has)
+no_back xs ys none b has = none b (list_any-append (λ c. is_eq (break_cmp b c)) xs ys ∙ or_right (has_break xs b) (has_break ys b) has)
 
 -- where there are none of all VIs, there are none of the VI at number k, if they count from n
 none_of_vi : (f : ℕ → Vi → List Break) (n m : ℕ) (vis : List Vi) (k : ℕ) (vi : Vi) → slice_get vis k ≡ Some vi → m ≡ n + k → NoBreak (each_from f n vis) → NoBreak (f m vi)
 none_of_vi f n m [] k vi at same none = absurd (let no : None ≡ Some vi = at in cc)
 none_of_vi f n m (v ∷ vis) zero vi at same none =
     let first : n ≡ m = omega (arith, same) in
-    subst (λ (x : ℕ). NoBreak (f x vi)) first (subst (λ (y : Vi). NoBreak (f n y)) (some_is v vi at) (no_front (f n v) (each_from f (n + 1) vis) none))
+    subst (λ (x : ℕ). NoBreak (f x vi)) first (subst (λ (y : Vi). NoBreak (f n y)) (same_Some v vi at) (no_front (f n v) (each_from f (n + 1) vis) none))
 none_of_vi f n m (v ∷ vis) (suc k) vi at same none = none_of_vi f (n + 1) m vis k vi at (omega (arith, same)) (no_back (f n v) (each_from f (n + 1) vis) none)
 
 none_told : (g : Spot → Break) (ss : List Spot) → NoBreak (map g ss) → ss ≡ []
@@ -93,13 +95,13 @@ Fed G false free d (Some name) = G d name
 
 module _ (G : ℕ → List ℕ → Type 0) where
   at_source : (free : Bool) (d e : ℕ) (w : Wire) (n : List ℕ) → ((d == e) && same_wire w (Some n)) ≡ true → Sourced G true free d w → G e n
-  at_source free d e None n same g = absurd (refute (and_right (d == e) false same))
+  at_source free d e None n same g = absurd (false≢true (and_right (d == e) false same))
   at_source free d e (Some m) n same g =
       let P : ℕ → Type 0 = λ x. G x n in
       subst P (eqb-true d e (and_left (d == e) (bytes_eq m n) same)) (subst (G d) ((bytes_eq-Decides m n).0 (and_right (d == e) (bytes_eq m n) same)) g)
 
   some_source : (c : Port) (n : List ℕ) (ps : List Port) → c.wire ≡ Some n → PortsHold (Sourced G) ps → list_any (λ s. are_joined s c) (sources ps) ≡ true → G c.diagram n
-  some_source c n [] wired h any = absurd (refute any)
+  some_source c n [] wired h any = absurd (false≢true any)
   some_source c n (p ∷ ps) wired h any = by p.is_source h.0 any (some_source c n ps wired h.1)
     where
       by : (b : Bool) → Sourced G b p.is_free p.diagram p.wire → list_any (λ s. are_joined s c) (cond b (p ∷ sources ps) (sources ps)) ≡ true
@@ -108,13 +110,13 @@ module _ (G : ℕ → List ℕ → Type 0) where
           ⊎_elim
           (λ here. at_source p.is_free p.diagram c.diagram p.wire n (subst (λ (w : Wire). ((p.diagram == c.diagram) && same_wire p.wire w) ≡ true) wired here) g)
           later
-          (either (are_joined p c) (list_any (λ s. are_joined s c) (sources ps)) any)
+          (or_cases (are_joined p c) (list_any (λ s. are_joined s c) (sources ps)) any)
       by false g any later = later any
 
   one_fed : (all : List Port) (c : Port) (w : Wire) → PortsHold (Sourced G) all → c.wire ≡ w → (is_some w && not (list_any (λ s. are_joined s c) (sources all))) ≡ false
       → (not (is_some w) && not c.is_free) ≡ false → Fed G false c.is_free c.diagram w
-  one_fed all c None sourced same joined free = unnot c.is_free free
-  one_fed all c (Some n) sourced same joined free = some_source c n all same sourced (unnot (list_any (λ s. are_joined s c) (sources all)) joined)
+  one_fed all c None sourced same joined free = not-false c.is_free free
+  one_fed all c (Some n) sourced same joined free = some_source c n all same sourced (not-false (list_any (λ s. are_joined s c) (sources all)) joined)
 
   all_fed : (all ps : List Port) → PortsHold (Sourced G) all → AllByRecursion (λ c. lacks_source all c ≡ false) (consumers ps) → AllByRecursion (λ c. is_missing c ≡ false) (consumers ps)
       → PortsHold (Fed G) ps
@@ -153,7 +155,7 @@ module _ (h : Hierarchy) (main : List ℕ) (wiring : IsWiring h main []) (k : �
   none_plain =
       none_of_vi (plain_in (ports_of h.vis) known) 0 k h.vis k vi stands (omega arith)
       (no_front (each_from (plain_in (ports_of h.vis) known) 0 h.vis) (renamed_vis h.vis)
-      (no_front (plain_breaks (ports_of h.vis) known h.vis) (absent_main known.arities (length h.vis) main) (λ b has. refute (wiring.each b (inl has)))))
+      (no_front (plain_breaks (ports_of h.vis) known h.vis) (absent_main known.arities (length h.vis) main) (λ b has. false≢true (wiring.each b (inl has)))))
 
   none_named : NoBreak (named_in ps k)
   none_named = no_front (named_in ps k) (lined_by known k vi.panel es) none_plain
@@ -176,7 +178,7 @@ module _ (h : Hierarchy) (main : List ℕ) (wiring : IsWiring h main []) (k : �
   -- no node leads to itself
   pub none_turns : (line : ℕ) → Leads (has_wire ps) line line → ⊥
   none_turns line leads =
-      refute (wiring.each (break k 6 (record { line = line; operand = 0 })) (inr (record { vi = vi; stands = stands; leads = leads; whole = refl; rule = refl })))
+      false≢true (wiring.each (break k 6 (record { line = line; operand = 0 })) (inr (record { vi = vi; stands = stands; leads = leads; whole = refl; rule = refl })))
 
   counted : AllByRecursion (λ e. not (fits_arity known.arities e.kind) ≡ false) es
   counted = none_kept whole (λ e. not (fits_arity known.arities e.kind)) es (none_told (break k 5) (miscounted known.arities es) (no_front (map (break k 5) (miscounted known.arities es)) _ none_called))
@@ -245,7 +247,7 @@ module _ (h : Hierarchy) (main : List ℕ) (wiring : IsWiring h main []) (k : �
         record {
           rows = of_one (λ e. ok_at types e.line e.diagram e.kind ≡ true) es (rows es none_rowless) e is;
           fine = of_one (λ e. IsKindFine types e.diagram e.kind) es all_fine e is;
-          counted = unnot (fits_arity known.arities e.kind) (of_one (λ e. not (fits_arity known.arities e.kind) ≡ false) es counted e is);
+          counted = not-false (fits_arity known.arities e.kind) (of_one (λ e. not (fits_arity known.arities e.kind) ≡ false) es counted e is);
           located = of_one (λ e. names_no_object (names_object vi.panel) e.kind ≡ false) es located e is;
           called = of_one (λ e. names_no_vi known.arities e.kind ≡ false) es called e is;
           given = of_one (λ e. kind_ungiven e.line e.kind ≡ []) es given e is;

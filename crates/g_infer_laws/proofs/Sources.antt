@@ -1,5 +1,6 @@
 -- Each named source of a VI is given by a step in which types are decided.
 use Rattle.std.proofs.Common.{ℕ, ◌+◌, Bool, true, false, List, [], ◌∷◌, ◌++◌, map, refl, inl, inr, ◌≡◌}
+use Rattle.std.proofs.lemmas.Bool.{false≢true}
 use Rattle.std.specs.Prelude.{Option, Some, None}
 use Rattle.std.specs.List.{AllByRecursion, list_all}
 use Rattle.g_types.specs.declared.ty.Ty.{Ty}
@@ -17,7 +18,8 @@ use Rattle.g_typing.proofs.Only.{IsIn, entries_steps, vi_steps}
 use Rattle.g_typing.proofs.Roles.{nothing}
 use Rattle.g_typing.proofs.Names.{Giver}
 use Rattle.g_infer_laws.specs.OwnLines.{is_case_line}
-use Rattle.g_infer_laws.proofs.Facts.{refute, and_left, and_right, all_both, all_then}
+use Rattle.g_wires.proofs.Found.{and_left, and_right}
+use Rattle.g_infer_laws.proofs.Facts.{all_both, all_then}
 use Rattle.g_infer_laws.proofs.Held.{OperandsHold, LineHolds, LinesHold}
 use Rattle.g_infer_laws.proofs.Fine.{IsFine, AreFine, PartsFine, IsKindFine, AllFine}
 
@@ -144,7 +146,7 @@ module _ (G : ℕ → List ℕ → Type 0) where
       → AllByRecursion (λ x. Into G (line_inside nothing l.outside x None t)) l.inside → Into G (result_given nothing l.outside k arms t) → OperandsHold (Sourced G) l (case_border t)
   case_line_sourced l k arms (line.Tunnel outer inner) own ins result = (tt, (in_each true inner _ l.inside ins, tt))
   case_line_sourced l k arms (line.Result outer default) own ins result = (from_given false l.outside outer _ result, tt)
-  case_line_sourced l k arms _ own ins result = absurd (refute own)
+  case_line_sourced l k arms _ own ins result = absurd (false≢true own)
 
   case_lines_sourced : (e : Entry) (bs : List ℕ) (arms : List Arm) (k l : ℕ) (ts : List Tunnel) → list_all is_case_line ts ≡ true
       → AllByRecursion (λ x. Into G (lines_inside nothing e.diagram x None ts)) bs → IntoSteps (results_steps e.diagram k arms ts)

@@ -8,6 +8,7 @@ use Rattle.g_diagram.specs.declared.hierarchy.Vi.{Vi}
 use Rattle.g_diagram.specs.Lines.{Part, Kind, Loop, Case, Sequence, InPlace, entries_of}
 use Rattle.g_listing_grammar.specs.Listing.{IsListing}
 
+-- of a `for`; a `while`, which has no `index` line in a listing, isn't told apart
 abbrev pub is_loop_line : Tunnel → Bool
 is_loop_line (line.Tunnel outer inner) = true
 is_loop_line (line.Register initial inner next last) = true
