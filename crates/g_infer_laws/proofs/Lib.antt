@@ -1,0 +1,11 @@
+mod Facts
+mod Held
+mod Fine
+mod Sources
+mod Rules
+mod Gives
+mod EachTyped
+mod OwnNodes
+mod OwnGiven
+mod Laws
+mod Examples
