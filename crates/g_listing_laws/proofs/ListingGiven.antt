@@ -1,5 +1,5 @@
 -- The types of the VIs that a listing has.
-use Rattle.std.proofs.Common.{ℕ, ◌≤◌, Bool, true, false, List, [], ◌∷◌, inl, inr, ◌⊎◌, length, arith}
+use Rattle.std.proofs.Common.{ℕ, ◌≤◌, Bool, true, false, List, [], ◌∷◌, inl, inr, ◌⊎◌}
 use Rattle.std.specs.Prelude.{Option, Some, None}
 use Rattle.std.specs.List.{All}
 use Rattle.std.proofs.lemmas.List.Elements.{All-nil, All-cons}
@@ -23,7 +23,7 @@ use Rattle.g_listing_grammar.specs.declared.ClonesWord.TheVariants as clones_wor
 use Rattle.g_listing_grammar.specs.declared.HeaderWord.{HeaderWord}
 use Rattle.g_listing_grammar.specs.declared.HeaderWord.TheVariants as header
 use Rattle.g_listing_grammar.specs.Listing.{Kind, system_end, after_clones, kind_rest, default_rest, control_rest, panel_rest, Begin, body_first, body_item, nodes_after, vi_rest, vi_word, at_end, vi_or_end, vis, listing}
-use Rattle.g_listing_laws.specs.Spelled.{IsPoolSize, IsItemSpelled, IsViSpelled, IsWritable, ReadsSpelled, ReadsWritable}
+use Rattle.g_listing_laws.specs.Spelled.{IsPoolSize, IsItemSpelled, IsViSpelled, AreSpelled, ReadsSpelled}
 use Rattle.g_listing_laws.proofs.Gives.{Gives, Either, gives_give, gives_take, gives_bind, gives_after, gives_loop}
 use Rattle.g_listing_laws.proofs.TypesGiven.{type_given}
 use Rattle.g_listing_laws.proofs.LinesSpelled.{IsNodeSpelled, constants_spelled}
@@ -98,21 +98,15 @@ or_end_given : (v : ℕ) (c : Unit {0} ⊎ Unit {0}) → Gives (Either IsViSpell
 or_end_given v (inl x) = gives_bind (vi_given v) λ i is. gives_give (inl i) is
 or_end_given v (inr x) = gives_give (inr tt) tt
 
-abbrev AreSome : List Vi → Type 0
-AreSome is = (1 ≤ length is) × All IsViSpelled is
-
-vis_given : (v : ℕ) → Gives AreSome (vis v)
+vis_given : (v : ℕ) → Gives (All IsViSpelled) (vis v)
 vis_given v =
     gives_after λ x.
     gives_bind (vi_given v) λ i is.
     gives_bind (gives_loop IsViSpelled Whatever (or_else vi_word at_end) (vi_or_end v) (or_end_given v)) λ others e.
-    gives_give (i ∷ others.0) (omega arith, All-cons IsViSpelled i others.0 is e.all)
+    gives_give (i ∷ others.0) (All-cons IsViSpelled i others.0 is e.all)
 
-listing_given : Gives IsWritable listing
-listing_given = gives_after λ x. gives_after λ v. gives_after λ e. gives_bind (vis_given v) λ is a. gives_give (record { vis = is }) (record { some = a.0; spelled = a.1 })
-
-pub reads_writable : ReadsWritable
-reads_writable bytes h l = listing_given.each (tokens_of (placed_tokens bytes)) h [] l
+listing_given : Gives AreSpelled listing
+listing_given = gives_after λ x. gives_after λ v. gives_after λ e. gives_bind (vis_given v) λ is a. gives_give (record { vis = is }) a
 
 pub reads_spelled : ReadsSpelled
-reads_spelled bytes h l = (reads_writable bytes h l).spelled
+reads_spelled bytes h l = listing_given.each (tokens_of (placed_tokens bytes)) h [] l

@@ -71,14 +71,6 @@ pub record IsViSpelled (vi : Vi) : Type 0 where
 abbrev pub AreSpelled : Hierarchy → Type 0
 AreSpelled h = All IsViSpelled h.vis
 
--- what is read can be written
+-- what a listing has is such
 abbrev pub ReadsSpelled : Type 0
 ReadsSpelled = (bytes : List ℕ) (h : Hierarchy) → IsListing bytes h → AreSpelled h
-
--- What every hierarchy is that a listing has. It is not all that a listing asks for: names, literals and levels are left out.
-pub record IsWritable (h : Hierarchy) : Type 0 where
-  pub some : 1 ≤ length h.vis
-  pub spelled : AreSpelled h
-
-abbrev pub ReadsWritable : Type 0
-ReadsWritable = (bytes : List ℕ) (h : Hierarchy) → IsListing bytes h → IsWritable h

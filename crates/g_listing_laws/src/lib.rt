@@ -1,7 +1,7 @@
 //! That the types and numbers in a listing are such as a listing can write.
 #![tactic(auto)]
 
-ghost use Rattle.g_listing_laws.specs.Spelled.{ReadsSpelled, ReadsWritable};
+ghost use Rattle.g_listing_laws.specs.Spelled.{ReadsSpelled};
 
 /// In a hierarchy that a listing has, the types of panel objects, constants, registers without an
 /// initial wire and queues are at most 8 deep, with arrays of no arrays and clusters of 1 to 64
@@ -10,9 +10,4 @@ ghost use Rattle.g_listing_laws.specs.Spelled.{ReadsSpelled, ReadsWritable};
 /// after `give` as the case has results, and a sequence has a frame.
 pub fn spelled_laws()
     ensures { ReadsSpelled }
-{}
-
-/// A hierarchy that a listing has is writable: it has a VI, and each VI is as above.
-pub fn writable_laws()
-    ensures { ReadsWritable }
 {}

@@ -30,7 +30,7 @@ use Rattle.g_listing_grammar.specs.declared.LineWord.{LineWord}
 use Rattle.g_listing_grammar.specs.declared.LineWord.TheVariants as form
 use Rattle.g_listing_grammar.specs.Nodes.{results}
 use Rattle.g_listing_grammar.specs.Listing.{IsListing}
-use Rattle.g_listing_laws.specs.Spelled.{IsPoolSize, IsQueueSize, IsWritable}
+use Rattle.g_listing_laws.specs.Spelled.{IsPoolSize, IsQueueSize}
 use Rattle.g_print_laws.specs.Bytes.{IsBytes}
 
 -- ---- names, wires and numbers
@@ -269,10 +269,6 @@ ListedExactly = (h : Hierarchy) → IsListed h ↔ CanBeListed h
 -- what can be listed is had by its canonical text, which is bytes
 abbrev pub CanonicalLists : Type 0
 CanonicalLists = (h : Hierarchy) → CanBeListed h → IsBytes (text_of h) × IsListing (text_of h) h
-
--- it is writable
-abbrev pub WritableToo : Type 0
-WritableToo = (h : Hierarchy) → CanBeListed h → IsWritable h
 
 -- what has at most so many levels has at most one more
 abbrev pub DeeperLiterals : Type 0
