@@ -1,0 +1,6 @@
+//! The clones of a VI.
+#![tactic(auto)]
+
+mod pool;
+
+pub use pool::Pool;
