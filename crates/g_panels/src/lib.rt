@@ -1,0 +1,6 @@
+//! The panels of data spaces.
+#![tactic(auto)]
+
+mod panel;
+
+pub use panel::Panel;
