@@ -1,0 +1,5 @@
+pub mod Compute
+pub mod Words
+pub mod Rows
+pub mod RunLemmas
+pub mod RestLemmas

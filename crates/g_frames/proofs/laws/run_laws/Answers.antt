@@ -1,0 +1,17 @@
+use Rattle.g_frames.proofs.Rows.Sum.{sum, too_early, twice, written, written_unfinished, by_seven}
+use Rattle.g_frames.proofs.Rows.Locals.{written_first, read_first}
+use Rattle.g_frames.proofs.RunLemmas.{composes, frames_stay, not_refused, allowed_not_refused}
+use Rattle.g_frames.proofs.RestLemmas.{rest_tested, rest_refuses}
+use Rattle.g_frames.proofs.laws.run_laws.Goals as goal
+
+pub returns-clause-composes : goal.returns-clause-composes
+returns-clause-composes c = composes
+
+pub returns-clause-frames : goal.returns-clause-frames
+returns-clause-frames c = frames_stay
+
+pub returns-clause-refuses : goal.returns-clause-refuses
+returns-clause-refuses c = λ p k xs s. (not_refused p k xs s, allowed_not_refused p k xs s)
+
+pub returns-clause-rests : goal.returns-clause-rests
+returns-clause-rests c = λ p s. (rest_refuses p s, rest_tested p s)

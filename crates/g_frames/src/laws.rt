@@ -1,0 +1,12 @@
+//! What holds of all runs.
+
+ghost use Rattle.g_frames.specs.Laws.{Composes, FramesStay, RefusesExactly, RestsExactly};
+
+/// Runs compose, no frame is closed and no value changes, the first firing that can't fire is there
+/// exactly where a trace isn't allowed, and a state is at rest exactly where no firing can fire.
+pub fn run_laws()
+    ensures composes { Composes }
+    ensures frames { FramesStay }
+    ensures refuses { RefusesExactly }
+    ensures rests { RestsExactly }
+{}
