@@ -157,7 +157,7 @@ some_goes_on p s x h =
     let at = then_some (λ n. node_effect (here p s f vi) x.choice n.0 n.1) (node_on x.node (nodes_in vi f.diagram) f.nodes) in_vi.2 in
     let n = at.0 in
     let fires : can_fire p s (firing x.frame n.0.line x.choice) ≡ true
-        = ap (λ l. can_fire p s (firing x.frame l x.choice)) (node_line x.node (nodes_in vi f.diagram) f.nodes n at.1) ∙ h in
+    = ap (λ l. can_fire p s (firing x.frame l x.choice)) (node_line x.node (nodes_in vi f.diagram) f.nodes n at.1) ∙ h in
     in_frames (can_go_on p s) p 0 s.frames x.frame f vi in_frame.1 in_vi.1
     (ap (λ m. list_any (can_go_on p s) (frame_nodes m f vi)) (omega arith)
     ∙ in_nodes (can_go_on p s) x.frame f vi x.node (nodes_in vi f.diagram) f.nodes n at.1

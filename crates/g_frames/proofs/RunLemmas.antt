@@ -66,7 +66,11 @@ fired_continues p line e f = by (vi_at p f.vi)
     by : (o : Option FlatVi) → Continues f (option_map_or (fired_in line e f) o f)
     by None = same f
     by (Some vi) = record {
-      vi = refl; space = refl; diagram = refl; opener = refl; iteration = refl;
+      vi = refl;
+      space = refl;
+      diagram = refl;
+      opener = refl;
+      iteration = refl;
       values = given_stays (sources_in f.diagram vi.ports) f.values e.gives;
     }
 

@@ -26,7 +26,7 @@ abbrev pub panel_opens : Here → (inputs : List Wire) → (vi clone : ℕ) → 
 panel_opens h inputs v clone called space =
     on_object h (panel_object h.program space) (OnPanel (panel.Enter (arguments h.outer inputs called.panel))) 0
     (λ reply. opens (progress.Call clone (Opened (next_frame h)))
-      (record { vi = v; space = space; diagram = 0; iteration = 0; gives = controls_given 1 called.panel reply.values }))
+    (record { vi = v; space = space; diagram = 0; iteration = 0; gives = controls_given 1 called.panel reply.values }))
 
 -- where calls of the VI take no clone, none is left
 abbrev pub stage_after : Clones → (frame : ℕ) → Stage

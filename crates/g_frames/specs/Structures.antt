@@ -75,8 +75,8 @@ loop_effect h e count stop i lines body progress.Idle = Some (gives (progress.Lo
 loop_effect h e count stop i lines body (progress.Loop vs ks ended) =
     guard (is_latest_complete h ks)
     (if has_ended h.outer count stop lines (length ks) (latest (readers_of h ks))
-     then Some (loop_ends h e vs ks lines body)
-     else guard (nat_lt h.state.begun h.state.limit) (Some (loop_goes_on h e vs ks count stop i lines body)))
+    then Some (loop_ends h e vs ks lines body)
+    else guard (nat_lt h.state.begun h.state.limit) (Some (loop_goes_on h e vs ks count stop i lines body)))
 loop_effect h e count stop i lines body _ = None
 
 -- ---- cases

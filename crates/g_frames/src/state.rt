@@ -32,11 +32,20 @@ pub enum Progress {
         ended: bool,
     },
     /// A case that opened a branch.
-    Case { frame: u64, ended: bool },
+    Case {
+        frame: u64,
+        ended: bool,
+    },
     /// A sequence that opened its first frame.
-    Sequence { frames: List<u64>, ended: bool },
+    Sequence {
+        frames: List<u64>,
+        ended: bool,
+    },
     /// A call: the clone of the VI that it took, 0 where the VI is no pool.
-    Call { clone: u8, stage: Stage },
+    Call {
+        clone: u8,
+        stage: Stage,
+    },
 }
 
 /// An execution of a diagram. A frame's number is its place among the frames, in the order of their

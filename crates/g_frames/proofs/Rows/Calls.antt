@@ -25,10 +25,16 @@ use Rattle.g_frames.proofs.Words.{i32, w, control, indicator, operation, trees, 
 -- 5 its `do`, 6 the node
 abbrev pub counting : Clones → List Space → Program
 counting clones spaces = program_of
-    ((sketch (codes "Main") NonReentrant (control (codes "z") i32 ∷ indicator (codes "p") i32 (codes "p") ∷ indicator (codes "q") i32 (codes "q") ∷ [])
-    (Call (codes "Count") (w (codes "z") ∷ []) (w (codes "p") ∷ []) ∷ Call (codes "Count") (w (codes "z") ∷ []) (w (codes "q") ∷ []) ∷ []), typed [])
-    ∷ (sketch (codes "Count") clones (control (codes "a") i32 ∷ indicator (codes "n") i32 (codes "n") ∷ [])
-    (For (w (codes "a")) None (line.Kept i32 (w (codes "c")) (w (codes "d")) (w (codes "n")) ∷ []) (trees (operation op.Inc (codes "c" ∷ []) (codes "d") ∷ [])) ∷ []), typed []) ∷ [])
+    ((
+      sketch (codes "Main") NonReentrant (control (codes "z") i32 ∷ indicator (codes "p") i32 (codes "p") ∷ indicator (codes "q") i32 (codes "q") ∷ [])
+          (Call (codes "Count") (w (codes "z") ∷ []) (w (codes "p") ∷ []) ∷ Call (codes "Count") (w (codes "z") ∷ []) (w (codes "q") ∷ []) ∷ []),
+      typed [],
+    )
+    ∷ (
+      sketch (codes "Count") clones (control (codes "a") i32 ∷ indicator (codes "n") i32 (codes "n") ∷ [])
+          (For (w (codes "a")) None (line.Kept i32 (w (codes "c")) (w (codes "d")) (w (codes "n")) ∷ []) (trees (operation op.Inc (codes "c" ∷ []) (codes "d") ∷ [])) ∷ []),
+      typed [],
+    ) ∷ [])
     (0 ∷ 1 ∷ []) spaces
 
 -- one data space: the second call goes on counting
@@ -39,7 +45,7 @@ pub kept :
 unfolding everything
 kept =
     ap (λ v. let n = coerced (each increased v) i32 in
-      Some (coerced (coerced n i32) i32 ∷ coerced (coerced (coerced (each increased n) i32) i32) i32 ∷ [], (Complete, [])))
+    Some (coerced (coerced n i32) i32 ∷ coerced (coerced (coerced (each increased n) i32) i32) i32 ∷ [], (Complete, [])))
     (default-Num I32)
 
 -- while one call has the data space the other waits
@@ -63,11 +69,17 @@ apart =
 -- the other: 3 and 4 the indicators
 abbrev pub leaving_out : Program
 leaving_out = program_of
-    ((sketch (codes "Main") NonReentrant (indicator (codes "p") i32 (codes "p") ∷ indicator (codes "q") i32 (codes "q") ∷ [])
-    (Call (codes "Both") (None ∷ None ∷ []) (w (codes "p") ∷ w (codes "q") ∷ []) ∷ []), typed [])
-    ∷ (sketch (codes "Both") Preallocated
-    (Control (codes "a") i32 false (Some (lit.Number (pos 5))) (w (codes "a")) ∷ control (codes "b") i32 ∷ indicator (codes "x") i32 (codes "a") ∷ indicator (codes "y") i32 (codes "b") ∷ [])
-    [], typed []) ∷ [])
+    ((
+      sketch (codes "Main") NonReentrant (indicator (codes "p") i32 (codes "p") ∷ indicator (codes "q") i32 (codes "q") ∷ [])
+          (Call (codes "Both") (None ∷ None ∷ []) (w (codes "p") ∷ w (codes "q") ∷ []) ∷ []),
+      typed [],
+    )
+    ∷ (
+      sketch (codes "Both") Preallocated
+          (Control (codes "a") i32 false (Some (lit.Number (pos 5))) (w (codes "a")) ∷ control (codes "b") i32 ∷ indicator (codes "x") i32 (codes "a") ∷ indicator (codes "y") i32 (codes "b") ∷ [])
+          [],
+      typed [],
+    ) ∷ [])
     (0 ∷ 1 ∷ []) (space 0 0 ∷ record { vi = 1; clone = 0; caller = Some (record { space = 0; line = 3 }) } ∷ [])
 
 pub left_out :
@@ -80,8 +92,11 @@ left_out =
 -- three calls of a pool of two clones. Lines of the first VI: 3 to 5 the calls; of the other: 3 the node
 abbrev pub pooled : Program
 pooled = program_of
-    ((sketch (codes "Main") NonReentrant (control (codes "a") i32 ∷ indicator (codes "x") i32 (codes "x") ∷ [])
-    (Call (codes "Work") (w (codes "a") ∷ []) (w (codes "x") ∷ []) ∷ Call (codes "Work") (w (codes "a") ∷ []) (None ∷ []) ∷ Call (codes "Work") (w (codes "a") ∷ []) (None ∷ []) ∷ []), typed [])
+    ((
+      sketch (codes "Main") NonReentrant (control (codes "a") i32 ∷ indicator (codes "x") i32 (codes "x") ∷ [])
+          (Call (codes "Work") (w (codes "a") ∷ []) (w (codes "x") ∷ []) ∷ Call (codes "Work") (w (codes "a") ∷ []) (None ∷ []) ∷ Call (codes "Work") (w (codes "a") ∷ []) (None ∷ []) ∷ []),
+      typed [],
+    )
     ∷ (sketch (codes "Work") (Pool 2) (control (codes "a") i32 ∷ indicator (codes "r") i32 (codes "s") ∷ []) (operation op.Inc (codes "a" ∷ []) (codes "s") ∷ []), typed []) ∷ [])
     (0 ∷ 1 ∷ []) (space 0 0 ∷ space 1 0 ∷ space 1 1 ∷ [])
 

@@ -1,5 +1,3 @@
-use Rattle.g_frames.proofs.Rows.Sum.{sum, too_early, twice, written, written_unfinished, by_seven}
-use Rattle.g_frames.proofs.Rows.Locals.{written_first, read_first}
 use Rattle.g_frames.proofs.RunLemmas.{composes, frames_stay, not_refused, allowed_not_refused}
 use Rattle.g_frames.proofs.RestLemmas.{rest_tested, rest_refuses}
 use Rattle.g_frames.proofs.laws.run_laws.Goals as goal
