@@ -3,3 +3,4 @@ pub mod Words
 pub mod Rows
 pub mod RunLemmas
 pub mod RestLemmas
+pub mod LimitLemmas

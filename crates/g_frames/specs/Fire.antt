@@ -24,7 +24,7 @@ use Rattle.g_frames.specs.State.{FireState, Opening, is_done, nodes_in, reader_i
 use Rattle.g_frames.specs.Effects.{Effect, gives, guard, Here, on_object}
 use Rattle.g_frames.specs.Operations.{done, on_own_panel, shared_effect}
 use Rattle.g_frames.specs.Structures.{loop_effect, case_effect, sequence_effect}
-use Rattle.g_frames.specs.Places.{place_effect}
+use Rattle.g_frames.specs.InPlace.{place_effect}
 use Rattle.g_frames.specs.Calls.{call_effect}
 
 -- ---- all kinds of nodes

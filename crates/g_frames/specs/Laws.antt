@@ -1,5 +1,5 @@
 -- What holds of every run of the firing machine.
-use Rattle.std.specs.Prelude.{◌≡◌, ◌↔◌, ℕ, true, List, ◌++◌, Some, None, slice_get}
+use Rattle.std.specs.Prelude.{◌≡◌, ◌↔◌, ◌≤◌, ℕ, true, List, ◌++◌, Some, None, slice_get}
 use Rattle.std.specs.Option.{option_and_then}
 use Rattle.g_values.specs.declared.value.Value.{Value}
 use Rattle.g_frames.specs.declared.firing.Firing.{Firing}
@@ -7,7 +7,7 @@ use Rattle.g_frames.specs.declared.state.Frame.{Frame}
 use Rattle.g_frames.specs.Program.{Program}
 use Rattle.g_frames.specs.State.{FireState}
 use Rattle.g_frames.specs.Fire.{fire}
-use Rattle.g_frames.specs.Run.{after_from, first_refused, is_at_rest, IsAtRest}
+use Rattle.g_frames.specs.Run.{after, after_from, first_refused, is_at_rest, IsAtRest}
 
 -- the state after two traces, one after the other
 abbrev pub Composes : Type 0
@@ -35,3 +35,9 @@ FramesStay =
 -- the test of rest tells whether no firing whatever can fire
 abbrev pub RestsExactly : Type 0
 RestsExactly = (p : Program) (s : FireState) → (is_at_rest p s ≡ true) ↔ IsAtRest p s
+
+-- the limit stays the same, and no run begins more iterations
+abbrev pub KeepsLimit : Type 0
+KeepsLimit =
+    (p : Program) (controls : List Value) (limit : ℕ) (trace : List Firing) (s : FireState) → after p controls limit trace ≡ Some s
+    → (s.limit ≡ limit) × (s.begun ≤ limit)

@@ -5,7 +5,7 @@ pub mod State
 pub mod Effects
 pub mod Operations
 pub mod Structures
-pub mod Places
+pub mod InPlace
 pub mod Calls
 pub mod Fire
 pub mod Run

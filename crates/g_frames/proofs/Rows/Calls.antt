@@ -1,10 +1,12 @@
 -- Calls: a VI with a kept register that is called twice, with one data space and with one for each call, and a pool of two clones.
 use Rattle.std.proofs.Common.{◌≡◌, refl, ap, ◌∙◌}
-use Rattle.std.specs.Prelude.{[], ◌∷◌, ◌++◌, false, List, Some, None, pos, codes}
+use Rattle.std.specs.Prelude.{[], ◌∷◌, ◌++◌, false, List, Option, Some, None, pos, codes}
+use Rattle.std.specs.Option.{option_and_then}
 use Rattle.g_types.specs.declared.rep.Rep.TheVariants.{I32}
 use Rattle.g_values.specs.Coerce.{coerced}
 use Rattle.g_values.specs.Default.{default}
 use Rattle.g_values.specs.declared.primitive.Primitive.TheVariants as op
+use Rattle.g_values.specs.declared.value.Value.{Value}
 use Rattle.g_values.proofs.Defaults.{default-Num}
 use Rattle.g_literals.proofs.ValueLemmas.{of-Number}
 use Rattle.g_diagram.specs.declared.hierarchy.Clones.{Clones}
@@ -14,12 +16,13 @@ use Rattle.g_diagram.specs.declared.panel.Lit.TheVariants as lit
 use Rattle.g_diagram.specs.declared.panel.PanelItem.TheVariants.{Control}
 use Rattle.g_diagram.proofs.Trees.{Call, For}
 use Rattle.g_hier.specs.declared.linked.Space.{Space}
-use Rattle.g_prims_definitions.specs.Arithmetic.{each, increased}
 use Rattle.g_frames.specs.declared.state.End.TheVariants.{Complete, Unfinished}
 use Rattle.g_frames.specs.Program.{Program}
-use Rattle.g_frames.specs.Run.{firing}
+use Rattle.g_frames.specs.declared.firing.Firing.{Firing}
+use Rattle.g_frames.specs.State.{FireState, start}
+use Rattle.g_frames.specs.Run.{firing, after_from}
 use Rattle.g_frames.proofs.Compute.{everything}
-use Rattle.g_frames.proofs.Words.{i32, w, control, indicator, operation, trees, sketch, typed, program_of, space, number, firings, shown}
+use Rattle.g_frames.proofs.Words.{i32, w, control, indicator, operation, trees, sketch, typed, program_of, space, number, firings, shown, wires_in}
 
 -- A VI counts how often it was called, in a kept register. Lines of the first VI: 4 and 5 the calls; of the other: 3 the loop, 4 its border,
 -- 5 its `do`, 6 the node
@@ -37,33 +40,53 @@ counting clones spaces = program_of
     ) ∷ [])
     (0 ∷ 1 ∷ []) spaces
 
+abbrev pub one_space : Program
+one_space = counting NonReentrant (space 0 0 ∷ space 1 0 ∷ [])
+
+abbrev pub two_spaces : Program
+two_spaces =
+    counting Preallocated (space 0 0 ∷ record { vi = 1; clone = 0; caller = Some (record { space = 0; line = 4 }) }
+    ∷ record { vi = 1; clone = 0; caller = Some (record { space = 0; line = 5 }) } ∷ [])
+
+-- the start, where the kept registers have these values
+abbrev pub starting : Program → List Value → FireState
+starting p values = record (start p (number (pos 1) ∷ []) 100) { kept = values }
+
+-- what both calls give from there on
+abbrev pub counted : Program → List Value → List Firing → Option (List (Option Value))
+counted p values trace = option_and_then (wires_in p (codes "p" ∷ codes "q" ∷ [])) (after_from p trace (starting p values))
+
+-- at first they have 0, the default of their type
+pub begins : start one_space (number (pos 1) ∷ []) 100 ≡ starting one_space (number (pos 0) ∷ [])
+unfolding everything
+begins = ap (λ v. starting one_space (v ∷ [])) (default-Num I32)
+
+pub both_begin : start two_spaces (number (pos 1) ∷ []) 100 ≡ starting two_spaces (number (pos 0) ∷ number (pos 0) ∷ [])
+unfolding everything
+both_begin = ap (λ v. starting two_spaces (v ∷ v ∷ [])) (default-Num I32)
+
 -- one data space: the second call goes on counting
 pub kept :
-    shown (counting NonReentrant (space 0 0 ∷ space 1 0 ∷ [])) (number (pos 1) ∷ []) 100
-    (firings ((0, 4) ∷ (0, 4) ∷ (1, 3) ∷ (1, 3) ∷ (2, 6) ∷ (1, 3) ∷ (1, 2) ∷ (0, 4) ∷ (0, 4) ∷ (0, 5) ∷ (0, 5) ∷ (3, 3) ∷ (3, 3) ∷ (4, 6) ∷ (3, 3) ∷ (3, 2) ∷ (0, 5) ∷ (0, 5) ∷ (0, 2) ∷ (0, 3) ∷ []))
-    ≡ Some (number (pos 1) ∷ number (pos 2) ∷ [], (Complete, []))
+    counted one_space (number (pos 0) ∷ [])
+    (firings ((0, 4) ∷ (0, 4) ∷ (1, 3) ∷ (1, 3) ∷ (2, 6) ∷ (1, 3) ∷ (1, 2) ∷ (0, 4) ∷ (0, 4) ∷ (0, 5) ∷ (0, 5) ∷ (3, 3) ∷ (3, 3) ∷ (4, 6) ∷ (3, 3) ∷ (3, 2) ∷ (0, 5) ∷ (0, 5) ∷ []))
+    ≡ Some (Some (number (pos 1)) ∷ Some (number (pos 2)) ∷ [])
 unfolding everything
-kept =
-    ap (λ v. let n = coerced (each increased v) i32 in
-    Some (coerced (coerced n i32) i32 ∷ coerced (coerced (coerced (each increased n) i32) i32) i32 ∷ [], (Complete, [])))
-    (default-Num I32)
+kept = refl
 
 -- while one call has the data space the other waits
 pub one_at_a_time :
-    shown (counting NonReentrant (space 0 0 ∷ space 1 0 ∷ [])) (number (pos 1) ∷ []) 100 (firings ((0, 5) ∷ []))
+    shown one_space (number (pos 1) ∷ []) 100 (firings ((0, 5) ∷ []))
     ≡ Some (number (pos 0) ∷ number (pos 0) ∷ [], (Unfinished, (0, 4) ∷ []))
 unfolding everything
 one_at_a_time = ap (λ v. Some (v ∷ v ∷ [], (Unfinished, (0, 4) ∷ []))) (default-Num I32)
 
 -- a data space for each call: both count from the start, and no call takes a clone
 pub apart :
-    shown (counting Preallocated (space 0 0 ∷ record { vi = 1; clone = 0; caller = Some (record { space = 0; line = 4 }) }
-    ∷ record { vi = 1; clone = 0; caller = Some (record { space = 0; line = 5 }) } ∷ [])) (number (pos 1) ∷ []) 100
-    (firings ((0, 4) ∷ (0, 5) ∷ (1, 3) ∷ (1, 3) ∷ (3, 6) ∷ (1, 3) ∷ (1, 2) ∷ (0, 4) ∷ (2, 3) ∷ (2, 3) ∷ (4, 6) ∷ (2, 3) ∷ (2, 2) ∷ (0, 5) ∷ (0, 2) ∷ (0, 3) ∷ []))
-    ≡ Some (number (pos 1) ∷ number (pos 1) ∷ [], (Complete, []))
+    counted two_spaces (number (pos 0) ∷ number (pos 0) ∷ [])
+    (firings ((0, 4) ∷ (0, 5) ∷ (1, 3) ∷ (1, 3) ∷ (3, 6) ∷ (1, 3) ∷ (1, 2) ∷ (0, 4) ∷ (2, 3) ∷ (2, 3) ∷ (4, 6) ∷ (2, 3) ∷ (2, 2) ∷ (0, 5) ∷ []))
+    ≡ Some (Some (number (pos 1)) ∷ Some (number (pos 1)) ∷ [])
 unfolding everything
-apart =
-    ap (λ v. let n = coerced (coerced (coerced (each increased v) i32) i32) i32 in Some (n ∷ n ∷ [], (Complete, []))) (default-Num I32)
+apart = refl
 
 -- an input without a wire has the value that is written for its control, else the default of its type. Lines of the first VI: 3 the call; of
 -- the other: 3 and 4 the indicators

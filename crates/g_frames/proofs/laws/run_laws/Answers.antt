@@ -1,5 +1,6 @@
 use Rattle.g_frames.proofs.RunLemmas.{composes, frames_stay, not_refused, allowed_not_refused}
 use Rattle.g_frames.proofs.RestLemmas.{rest_tested, rest_refuses}
+use Rattle.g_frames.proofs.LimitLemmas.{keeps_limit}
 use Rattle.g_frames.proofs.laws.run_laws.Goals as goal
 
 pub returns-clause-composes : goal.returns-clause-composes
@@ -7,6 +8,9 @@ returns-clause-composes c = composes
 
 pub returns-clause-frames : goal.returns-clause-frames
 returns-clause-frames c = frames_stay
+
+pub returns-clause-limit : goal.returns-clause-limit
+returns-clause-limit c = keeps_limit
 
 pub returns-clause-refuses : goal.returns-clause-refuses
 returns-clause-refuses c = λ p k xs s. (not_refused p k xs s, allowed_not_refused p k xs s)
