@@ -7,7 +7,7 @@ use Rattle.g_frames.specs.declared.state.Frame.{Frame}
 use Rattle.g_frames.specs.Program.{Program}
 use Rattle.g_frames.specs.State.{FireState}
 use Rattle.g_frames.specs.Fire.{fire}
-use Rattle.g_frames.specs.Run.{after, after_from, first_refused, is_at_rest, IsAtRest}
+use Rattle.g_frames.specs.Run.{after_from, first_refused, is_at_rest, IsAtRest, IsReached}
 
 -- the state after two traces, one after the other
 abbrev pub Composes : Type 0
@@ -38,6 +38,4 @@ RestsExactly = (p : Program) (s : FireState) → (is_at_rest p s ≡ true) ↔ I
 
 -- the limit stays the same, and no run begins more iterations
 abbrev pub KeepsLimit : Type 0
-KeepsLimit =
-    (p : Program) (controls : List Value) (limit : ℕ) (trace : List Firing) (s : FireState) → after p controls limit trace ≡ Some s
-    → (s.limit ≡ limit) × (s.begun ≤ limit)
+KeepsLimit = (p : Program) (limit : ℕ) (s : FireState) → IsReached p limit s → (s.limit ≡ limit) × (s.begun ≤ limit)

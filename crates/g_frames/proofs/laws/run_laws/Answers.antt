@@ -10,7 +10,7 @@ pub returns-clause-frames : goal.returns-clause-frames
 returns-clause-frames c = frames_stay
 
 pub returns-clause-limit : goal.returns-clause-limit
-returns-clause-limit c = keeps_limit
+returns-clause-limit c = λ p limit s is. keeps_limit p is.controls limit is.trace s is.after_it
 
 pub returns-clause-refuses : goal.returns-clause-refuses
 returns-clause-refuses c = λ p k xs s. (not_refused p k xs s, allowed_not_refused p k xs s)
