@@ -1,6 +1,6 @@
--- No run begins more iterations than its limit.
-use Rattle.std.proofs.Common.{◌≡◌, Bool, true, false, ◌||◌, ℕ, ◌≤◌, ◌<◌, List, [], ◌∷◌, length, cond, Option, Some, None, arith, refl, ap, sym, subst, ◌∙◌}
-use Rattle.std.proofs.lemmas.Bool.{or_right, ltb-true}
+-- No run begins more iterations than its limit, and a spent one began as many.
+use Rattle.std.proofs.Common.{◌≡◌, Bool, true, false, ◌||◌, ℕ, ◌+◌, ◌≤◌, ◌<◌, List, [], ◌∷◌, length, cond, Option, Some, None, arith, refl, ap, sym, subst, ◌∙◌}
+use Rattle.std.proofs.lemmas.Bool.{or_right, ltb-true, ltb-false, lt-ltb}
 use Rattle.std.specs.Prelude.{is_some, is_none, not, nat_lt, slice_get}
 use Rattle.std.specs.Option.{option_map, option_and_then, option_map_or}
 use Rattle.g_types.specs.declared.ty.Ty.{Ty}
@@ -34,9 +34,12 @@ use Rattle.g_frames.specs.Operations.{done, input_at, object_named, serial_of, c
 use Rattle.g_frames.specs.Structures.{is_complete_at, loop_ends, loop_goes_on, loop_effect, case_ends, case_effect, next_part, sequence_effect}
 use Rattle.g_frames.specs.InPlace.{place_body, place_done, item_at, by_place, place_effect}
 use Rattle.g_frames.specs.Calls.{enters, panel_opens, stage_after, panel_returns, space_of_call, call_begins, call_goes_on, call_effect}
-use Rattle.g_frames.specs.Fire.{effect, is_ready, node_effect, node_on, here, effect_in, effect_of, can_fire, fire, begun_after, applied}
-use Rattle.g_frames.specs.Run.{go_on, after_from, after}
+use Rattle.g_frames.specs.Fire.{effect, is_ready, node_effect, node_on, here, effect_in, effect_with, effect_of, can_fire, fire, begun_after, applied}
+use Rattle.g_frames.specs.declared.state.End.{End}
+use Rattle.g_frames.specs.declared.state.End.TheVariants.{Complete, Spent, Stalled, Unfinished}
+use Rattle.g_frames.specs.Run.{go_on, after_from, after, is_at_rest, is_first_complete, with_room, end_of}
 use Rattle.g_frames.proofs.RunLemmas.{refute, some_is}
+use Rattle.g_frames.proofs.RestLemmas.{rest_tested, rest_refuses}
 
 -- an effect begins an iteration only where there is room
 data Within (room : Bool) : Option Effect → Type 0 where
@@ -66,14 +69,14 @@ limited false e = stays
 
 module _ (h : Here) (e : Entry) where
   abbrev room : Bool
-  room = nat_lt h.state.begun h.state.limit
+  room = h.has_room
 
   on_within : (k : ℕ) (o : Operation) (c : ℕ) (after : Reply → Effect) → ((r : Reply) → (after r).begins ≡ false) → Within room (on_object h k o c after)
-  on_within k o c after none = stepped room (Some k) after none (option_and_then (λ content. object_step content o c no_body) (slice_get h.state.objects k))
+  on_within k o c after none = stepped room (Some k) after none (option_and_then (λ content. object_step content o c no_body) (slice_get h.objects k))
 
   live_within : (live : Option Live) (never_live : Content) (o : Operation) (body : Body) (after : Reply → Effect) → ((r : Reply) → (after r).begins ≡ false)
       → Within room (on_live h live never_live o body after)
-  live_within live never_live o body after none = stepped room (object_named live) after none (object_step (content_named h.state.objects never_live live) o 0 body)
+  live_within live never_live o body after none = stepped room (object_named live) after none (object_step (content_named h.objects never_live live) o 0 body)
 
   reference : (o : SharedOp) (vs : List Value) (v : Value-F Value) → Within room (by_reference h e o vs v)
   reference o vs (Value-F.Queue r) =
@@ -115,7 +118,7 @@ module _ (h : Here) (e : Entry) where
   case_within w lines arms progress.Idle = mapped room _ (λ _. refl) _
   case_within w lines arms progress.Done = stays
   case_within w lines arms (progress.Loop vs ks ended) = stays
-  case_within w lines arms (progress.Case k ended) = then_within room _ (ends_within lines arms k) (slice_get h.state.frames k)
+  case_within w lines arms (progress.Case k ended) = then_within room _ (ends_within lines arms k) (slice_get h.frames k)
   case_within w lines arms (progress.Sequence ks ended) = stays
   case_within w lines arms (progress.Call clone stage) = stays
 
@@ -190,17 +193,17 @@ module _ (h : Here) (e : Entry) where
 
 effect_within : (p : Program) (s : FireState) (x : Firing) → Within (nat_lt s.begun s.limit) (effect_of p s x)
 effect_within p s x =
-    then_within (nat_lt s.begun s.limit) (λ f. option_and_then (effect_in p s x f) (vi_at p f.vi))
-    (λ f. then_within (nat_lt s.begun s.limit) (effect_in p s x f) (in_vi f) (vi_at p f.vi)) (slice_get s.frames x.frame)
+    then_within (nat_lt s.begun s.limit) (λ f. option_and_then (effect_in p (nat_lt s.begun s.limit) s x f) (vi_at p f.vi))
+    (λ f. then_within (nat_lt s.begun s.limit) (effect_in p (nat_lt s.begun s.limit) s x f) (in_vi f) (vi_at p f.vi)) (slice_get s.frames x.frame)
   where
-    in_node : (f : Frame) (vi : FlatVi) (n : Entry × Progress) → Within (nat_lt s.begun s.limit) (node_effect (here p s f vi) x.choice n.0 n.1)
+    in_node : (f : Frame) (vi : FlatVi) (n : Entry × Progress) → Within (nat_lt s.begun s.limit) (node_effect (here p (nat_lt s.begun s.limit) s f vi) x.choice n.0 n.1)
     in_node f vi n =
-        guarded (nat_lt s.begun s.limit) (is_ready (here p s f vi).outer n.0 n.1) (effect (here p s f vi) n.0 x.choice n.0.kind n.1)
-        (all_within (here p s f vi) n.0 x.choice n.0.kind n.1)
+        guarded (nat_lt s.begun s.limit) (is_ready (here p (nat_lt s.begun s.limit) s f vi).outer n.0 n.1) (effect (here p (nat_lt s.begun s.limit) s f vi) n.0 x.choice n.0.kind n.1)
+        (all_within (here p (nat_lt s.begun s.limit) s f vi) n.0 x.choice n.0.kind n.1)
 
-    in_vi : (f : Frame) (vi : FlatVi) → Within (nat_lt s.begun s.limit) (effect_in p s x f vi)
+    in_vi : (f : Frame) (vi : FlatVi) → Within (nat_lt s.begun s.limit) (effect_in p (nat_lt s.begun s.limit) s x f vi)
     in_vi f vi =
-        then_within (nat_lt s.begun s.limit) (λ n. node_effect (here p s f vi) x.choice n.0 n.1) (in_node f vi) (node_on x.node (nodes_in vi f.diagram) f.nodes)
+        then_within (nat_lt s.begun s.limit) (λ n. node_effect (here p (nat_lt s.begun s.limit) s f vi) x.choice n.0 n.1) (in_node f vi) (node_on x.node (nodes_in vi f.diagram) f.nodes)
 
 -- ---- runs
 
@@ -229,3 +232,40 @@ runs_keep p (x ∷ xs) s t is few =
 
 pub keeps_limit : (p : Program) (controls : List Value) (limit : ℕ) (trace : List Firing) (s : FireState) → after p controls limit trace ≡ Some s → (s.limit ≡ limit) × (s.begun ≤ limit)
 keeps_limit p controls limit trace s is = runs_keep p trace (start p controls limit) s is (omega arith)
+
+-- ---- ends
+
+-- with room, one iteration more makes no difference
+room_is : (p : Program) (s : FireState) → nat_lt s.begun s.limit ≡ true → (x : Firing) → can_fire p (with_room s) x ≡ can_fire p s x
+room_is p s has x = ap (λ b. is_some (effect_with p b s x)) (lt-ltb s.begun (s.begun + 1) (omega arith) ∙ sym has)
+
+abbrev ended : (rests complete spent : Bool) → End
+ended rests complete spent = cond rests (cond complete Complete (cond spent Stalled Spent)) Unfinished
+
+is_spent : End → Bool
+is_spent Complete = false
+is_spent Spent = true
+is_spent Stalled = false
+is_spent Unfinished = false
+
+spent_parts : (rests complete stalled : Bool) → ended rests complete stalled ≡ Spent → (rests ≡ true) × (stalled ≡ false)
+unfolding is_spent
+spent_parts true true stalled h = absurd (refute (ap is_spent h))
+spent_parts true false true h = absurd (refute (ap is_spent h))
+spent_parts true false false h = (refl, refl)
+spent_parts false complete stalled h = absurd (refute (ap is_spent h))
+
+pub spends_all : (p : Program) (limit : ℕ) (s : FireState) → (s.limit ≡ limit) × (s.begun ≤ limit) → end_of p s ≡ Spent → s.begun ≡ limit
+spends_all p limit s keeps h = by (nat_lt s.begun s.limit) refl
+  where
+    parts : (is_at_rest p s ≡ true) × (is_at_rest p (with_room s) ≡ false)
+    parts = spent_parts (is_at_rest p s) (is_first_complete s.frames) (is_at_rest p (with_room s)) h
+
+    by : (b : Bool) → nat_lt s.begun s.limit ≡ b → s.begun ≡ limit
+    by true is =
+        absurd (refute (sym parts.1 ∙ rest_tested p (with_room s) (λ x. room_is p s is x ∙ rest_refuses p s parts.0 x)))
+    by false is =
+        let same : s.limit ≡ limit = keeps.0 in
+        let few : s.begun ≤ limit = keeps.1 in
+        let not_less : s.limit ≤ s.begun = ltb-false s.begun s.limit is in
+        omega (arith, same, few, not_less)

@@ -2,7 +2,7 @@
 use Rattle.std.proofs.Common.{◌≡◌, Bool, true, false, ◌||◌, ℕ, zero, suc, ◌+◌, List, [], ◌∷◌, map, length, Option, Some, None, arith, cond, refl, ap, sym, ◌∙◌}
 use Rattle.std.proofs.lemmas.Bool.{eqb-true, or_left, or_right}
 use Rattle.std.proofs.lemmas.List.Folds.{list_any-append}
-use Rattle.std.specs.Prelude.{is_some, is_none, slice_get, not, ◌==◌}
+use Rattle.std.specs.Prelude.{is_some, is_none, slice_get, not, nat_lt, ◌==◌}
 use Rattle.std.specs.List.{list_any}
 use Rattle.std.specs.Option.{option_and_then, option_map_or}
 use Rattle.g_diagram.specs.declared.hierarchy.Clones.{Clones}
@@ -69,13 +69,13 @@ module _ (test : Option ℕ → Bool) where
 
   module _ (h : Here) (e : Entry) (inputs : List Wire) (v : ℕ) (called : FlatVi) (c : ℕ) (t : test (Some c) ≡ true) where
     abbrev Listed : Type 0
-    Listed = list_any test (map Some (from_to 0 (option_map_or clones_in (slice_get h.state.objects (pool_object h.program v)) 0))) ≡ true
+    Listed = list_any test (map Some (from_to 0 (option_map_or clones_in (slice_get h.objects (pool_object h.program v)) 0))) ≡ true
 
     begun : (clones : Clones) → is_some (call_begins h e inputs v called clones (Some c)) ≡ true → Listed
     begun NonReentrant g = absurd (refute g)
     begun Preallocated g = absurd (refute g)
     begun (Pool n) g =
-        clone_entered (Some (pool_object h.program v)) (λ reply. gives (progress.Call reply.choice Entered) []) c (slice_get h.state.objects (pool_object h.program v)) t g
+        clone_entered (Some (pool_object h.program v)) (λ reply. gives (progress.Call reply.choice Entered) []) c (slice_get h.objects (pool_object h.program v)) t g
 
     entered : (q : Progress) → is_some (call_effect h e inputs (Some c) q v called) ≡ true → Listed
     entered progress.Idle g = begun called.clones g
@@ -87,7 +87,7 @@ module _ (test : Option ℕ → Bool) where
 
   -- what a node fires with is among its choices
   listed : (h : Here) (e : Entry) (choice : Option ℕ) (q : Progress) (kind : Kind) → test choice ≡ true → is_some (effect h e choice kind q) ≡ true
-      → list_any test (choices_of h.program h.state kind) ≡ true
+      → list_any test (choices_of h.program h.objects kind) ≡ true
   listed h e choice q (Const t literal out) c g = plain choice _ g c
   listed h e choice q (Apply op inputs outputs) c g = plain choice _ g c
   listed h e choice q (Shows name t w) c g = plain choice _ g c
@@ -150,19 +150,20 @@ module _ (test : Standing → Bool) where
 -- a node that a firing fires can go on
 some_goes_on : (p : Program) (s : FireState) (x : Firing) → can_fire p s x ≡ true → list_any (can_go_on p s) (all_nodes p s) ≡ true
 some_goes_on p s x h =
-    let in_frame = then_some (λ f. option_and_then (effect_in p s x f) (vi_at p f.vi)) (slice_get s.frames x.frame) h in
+    let room = nat_lt s.begun s.limit in
+    let in_frame = then_some (λ f. option_and_then (effect_in p room s x f) (vi_at p f.vi)) (slice_get s.frames x.frame) h in
     let f = in_frame.0 in
-    let in_vi = then_some (effect_in p s x f) (vi_at p f.vi) in_frame.2 in
+    let in_vi = then_some (effect_in p room s x f) (vi_at p f.vi) in_frame.2 in
     let vi = in_vi.0 in
-    let at = then_some (λ n. node_effect (here p s f vi) x.choice n.0 n.1) (node_on x.node (nodes_in vi f.diagram) f.nodes) in_vi.2 in
+    let at = then_some (λ n. node_effect (here p room s f vi) x.choice n.0 n.1) (node_on x.node (nodes_in vi f.diagram) f.nodes) in_vi.2 in
     let n = at.0 in
     let fires : can_fire p s (firing x.frame n.0.line x.choice) ≡ true
     = ap (λ l. can_fire p s (firing x.frame l x.choice)) (node_line x.node (nodes_in vi f.diagram) f.nodes n at.1) ∙ h in
     in_frames (can_go_on p s) p 0 s.frames x.frame f vi in_frame.1 in_vi.1
     (ap (λ m. list_any (can_go_on p s) (frame_nodes m f vi)) (omega arith)
     ∙ in_nodes (can_go_on p s) x.frame f vi x.node (nodes_in vi f.diagram) f.nodes n at.1
-    (listed (λ c. can_fire p s (firing x.frame n.0.line c)) (here p s f vi) n.0 x.choice n.1 n.0.kind fires
-    (guarded (is_ready (here p s f vi).outer n.0 n.1) (effect (here p s f vi) n.0 x.choice n.0.kind n.1) at.2)))
+    (listed (λ c. can_fire p s (firing x.frame n.0.line c)) (here p room s f vi) n.0 x.choice n.1 n.0.kind fires
+    (guarded (is_ready (here p room s f vi).outer n.0 n.1) (effect (here p room s f vi) n.0 x.choice n.0.kind n.1) at.2)))
 
 pub rest_refuses : (p : Program) (s : FireState) → is_at_rest p s ≡ true → IsAtRest p s
 rest_refuses p s h x = by (can_fire p s x) refl
@@ -180,4 +181,4 @@ none_of test (x ∷ xs) none = ap (λ b. b || list_any test xs) (none x) ∙ non
 pub rest_tested : (p : Program) (s : FireState) → IsAtRest p s → is_at_rest p s ≡ true
 rest_tested p s none =
     ap not (none_of (can_go_on p s) (all_nodes p s)
-    (λ n. none_of (λ c. can_fire p s (firing n.number n.entry.line c)) (choices_of p s n.entry.kind) (λ c. none (firing n.number n.entry.line c))))
+    (λ n. none_of (λ c. can_fire p s (firing n.number n.entry.line c)) (choices_of p s.objects n.entry.kind) (λ c. none (firing n.number n.entry.line c))))

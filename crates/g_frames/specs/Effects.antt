@@ -10,7 +10,7 @@ use Rattle.g_frames.specs.declared.state.Progress.{Progress}
 use Rattle.g_frames.specs.declared.state.Frame.{Frame}
 use Rattle.g_frames.specs.Contents.{Content, Operation, object_step}
 use Rattle.g_frames.specs.Program.{FlatVi, Program}
-use Rattle.g_frames.specs.State.{FireState, Opening}
+use Rattle.g_frames.specs.State.{Opening}
 
 -- What one firing does: the progress of its node, the values that it gives at sources of its frame, the frame that it opens, the object
 -- that it changes, the kept registers that it writes, and whether it begins an iteration
@@ -35,17 +35,22 @@ abbrev pub guard : Bool → Option Effect → Option Effect
 guard true e = e
 guard false e = None
 
--- where a node stands: in which state and frame, with the frame's VI and wires
+-- where a node stands, and all that its firing looks at in the state
 pub record Here : Type 0 where
   pub program : Program
-  pub state : FireState
+  pub frames : List Frame
+  pub objects : List Content
+  pub kept : List Value
+  -- whether the limit leaves room for an iteration
+  pub has_room : Bool
+  -- the node's frame, with its VI and the values on its wires
   pub frame : Frame
   pub vi : FlatVi
   pub outer : Reader
 
 -- the number that the next frame gets
 abbrev pub next_frame : Here → ℕ
-next_frame h = length h.state.frames
+next_frame h = length h.frames
 
 -- a frame of the node's own VI and data space
 abbrev pub inside : Here → (diagram iteration : ℕ) → Given → Opening
@@ -63,4 +68,4 @@ no_body v vs = (v, [])
 -- an operation on the object of a number
 abbrev pub on_object : Here → (object : ℕ) → Operation → (choice : ℕ) → (Reply → Effect) → Option Effect
 on_object h k o choice effect =
-    after_step (Some k) effect (option_and_then (λ content. object_step content o choice no_body) (slice_get h.state.objects k))
+    after_step (Some k) effect (option_and_then (λ content. object_step content o choice no_body) (slice_get h.objects k))

@@ -1,5 +1,5 @@
 -- One firing: what it needs, and what it does.
-use Rattle.std.specs.Prelude.{ℕ, ◌+◌, ◌==◌, Bool, true, false, ◌&&◌, not, List, [], ◌∷◌, ◌++◌, map, Option, Some, None, is_some, is_none, slice_get, slice_set, if◌then◌else◌}
+use Rattle.std.specs.Prelude.{ℕ, ◌+◌, ◌==◌, nat_lt, Bool, true, false, ◌&&◌, not, List, [], ◌∷◌, ◌++◌, map, Option, Some, None, is_some, is_none, slice_get, slice_set, if◌then◌else◌}
 use Rattle.std.specs.List.{list_all}
 use Rattle.std.specs.Option.{option_map, option_and_then, option_map_or, option_to_list}
 use Rattle.g_values.specs.declared.value.Value.{Value}
@@ -70,15 +70,29 @@ node_on l [] ps = None
 node_on l (e ∷ es) [] = None
 node_on l (e ∷ es) (p ∷ ps) = if e.line == l then Some (e, p) else node_on l es ps
 
-abbrev pub here : Program → FireState → Frame → FlatVi → Here
-here p s f vi = record { program = p; state = s; frame = f; vi = vi; outer = reader_in vi f }
+abbrev pub here : Program → (has_room : Bool) → FireState → Frame → FlatVi → Here
+here p has_room s f vi = record {
+  program = p;
+  frames = s.frames;
+  objects = s.objects;
+  kept = s.kept;
+  has_room = has_room;
+  frame = f;
+  vi = vi;
+  outer = reader_in vi f;
+}
 
-abbrev pub effect_in : Program → FireState → Firing → Frame → FlatVi → Option Effect
-effect_in p s x f vi = option_and_then (λ n. node_effect (here p s f vi) x.choice n.0 n.1) (node_on x.node (nodes_in vi f.diagram) f.nodes)
+abbrev pub effect_in : Program → (has_room : Bool) → FireState → Firing → Frame → FlatVi → Option Effect
+effect_in p has_room s x f vi =
+    option_and_then (λ n. node_effect (here p has_room s f vi) x.choice n.0 n.1) (node_on x.node (nodes_in vi f.diagram) f.nodes)
+
+-- what a firing does where the limit leaves room for an iteration or not, if it can fire
+abbrev pub effect_with : Program → (has_room : Bool) → FireState → Firing → Option Effect
+effect_with p has_room s x = option_and_then (λ f. option_and_then (effect_in p has_room s x f) (vi_at p f.vi)) (slice_get s.frames x.frame)
 
 -- what a firing does, if it can fire
 abbrev pub effect_of : Program → FireState → Firing → Option Effect
-effect_of p s x = option_and_then (λ f. option_and_then (effect_in p s x f) (vi_at p f.vi)) (slice_get s.frames x.frame)
+effect_of p s x = effect_with p (nat_lt s.begun s.limit) s x
 
 abbrev pub can_fire : Program → FireState → Firing → Bool
 can_fire p s x = is_some (effect_of p s x)

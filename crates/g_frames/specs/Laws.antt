@@ -7,7 +7,8 @@ use Rattle.g_frames.specs.declared.state.Frame.{Frame}
 use Rattle.g_frames.specs.Program.{Program}
 use Rattle.g_frames.specs.State.{FireState}
 use Rattle.g_frames.specs.Fire.{fire}
-use Rattle.g_frames.specs.Run.{after_from, first_refused, is_at_rest, IsAtRest, IsReached}
+use Rattle.g_frames.specs.declared.state.End.TheVariants.{Spent}
+use Rattle.g_frames.specs.Run.{after_from, first_refused, is_at_rest, IsAtRest, end_of, IsReached}
 
 -- the state after two traces, one after the other
 abbrev pub Composes : Type 0
@@ -39,3 +40,7 @@ RestsExactly = (p : Program) (s : FireState) → (is_at_rest p s ≡ true) ↔ I
 -- the limit stays the same, and no run begins more iterations
 abbrev pub KeepsLimit : Type 0
 KeepsLimit = (p : Program) (limit : ℕ) (s : FireState) → IsReached p limit s → (s.limit ≡ limit) × (s.begun ≤ limit)
+
+-- a run that ended for want of iterations began all that it may
+abbrev pub SpendsAll : Type 0
+SpendsAll = (p : Program) (limit : ℕ) (s : FireState) → IsReached p limit s → end_of p s ≡ Spent → s.begun ≡ limit

@@ -45,7 +45,7 @@ content_named objects otherwise live = unwrap_or (option_and_then (λ l. slice_g
 
 -- an operation on what a reference names. The null reference stands for an object of its type that is never live, which nothing changes
 abbrev pub on_live : Here → Option Live → (never_live : Content) → Operation → Body → (Reply → Effect) → Option Effect
-on_live h live never_live o body effect = after_step (object_named live) effect (object_step (content_named h.state.objects never_live live) o 0 body)
+on_live h live never_live o body effect = after_step (object_named live) effect (object_step (content_named h.objects never_live live) o 0 body)
 
 abbrev pub no_queue : (item : Ty) → Content
 no_queue t = content.Queue (new_queue 0 t (negsuc 0))

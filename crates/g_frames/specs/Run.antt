@@ -84,14 +84,14 @@ clones_in _ = 0
 
 -- The choices that a firing of a node may name: none, and for a call each clone of its pool. That more are listed than some firing may name
 -- makes no difference below
-abbrev pub choices_of : Program → FireState → Kind → List (Option ℕ)
-choices_of p s (Call name inputs outputs) =
-    None ∷ map Some (from_to 0 (option_map_or clones_in (slice_get s.objects (pool_object p (numbered p.vis name))) 0))
-choices_of p s _ = None ∷ []
+abbrev pub choices_of : Program → (objects : List Content) → Kind → List (Option ℕ)
+choices_of p objects (Call name inputs outputs) =
+    None ∷ map Some (from_to 0 (option_map_or clones_in (slice_get objects (pool_object p (numbered p.vis name))) 0))
+choices_of p objects _ = None ∷ []
 
 -- whether a node can fire, with some choice
 abbrev pub can_go_on : Program → FireState → Standing → Bool
-can_go_on p s n = list_any (λ choice. can_fire p s (firing n.number n.entry.line choice)) (choices_of p s n.entry.kind)
+can_go_on p s n = list_any (λ choice. can_fire p s (firing n.number n.entry.line choice)) (choices_of p s.objects n.entry.kind)
 
 -- no node can fire
 abbrev pub is_at_rest : Program → FireState → Bool

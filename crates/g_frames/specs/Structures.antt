@@ -1,5 +1,5 @@
 -- Loops, cases and sequences: their firings open frames, and go on once these are complete.
-use Rattle.std.specs.Prelude.{ℕ, ◌+◌, ◌==◌, nat_lt, Bool, true, false, List, [], ◌∷◌, ◌++◌, map, length, Option, Some, None, slice_get, if◌then◌else◌}
+use Rattle.std.specs.Prelude.{ℕ, ◌+◌, ◌==◌, Bool, true, false, List, [], ◌∷◌, ◌++◌, map, length, Option, Some, None, slice_get, if◌then◌else◌}
 use Rattle.std.specs.Option.{option_map, option_and_then, option_map_or, option_to_list}
 use Rattle.g_types.specs.declared.ty.Ty.{Ty}
 use Rattle.g_values.specs.declared.value.Value.{Value}
@@ -24,11 +24,11 @@ use Rattle.g_frames.specs.Operations.{input_at}
 -- the wires of the frames of a node, in the order of their opening
 abbrev pub readers_of : Here → List ℕ → List Reader
 readers_of h [] = []
-readers_of h (k ∷ ks) = option_to_list (option_map (reader_in h.vi) (slice_get h.state.frames k)) ++ readers_of h ks
+readers_of h (k ∷ ks) = option_to_list (option_map (reader_in h.vi) (slice_get h.frames k)) ++ readers_of h ks
 
 -- whether the frame of a number is complete
 abbrev pub is_complete_at : Here → ℕ → Bool
-is_complete_at h k = option_map_or is_complete (slice_get h.state.frames k) false
+is_complete_at h k = option_map_or is_complete (slice_get h.frames k) false
 
 -- the latest frame of a node is complete, or there is none
 abbrev pub is_latest_complete : Here → List ℕ → Bool
@@ -44,7 +44,7 @@ kept_at (r ∷ rs) (v ∷ vs) l = if r.0 == l then v else kept_at rs vs l
 
 -- what the kept registers of a loop have in the state
 abbrev pub kept_now : Here → (registers : List (ℕ × Ty)) → List Value
-kept_now h rs = map (λ r. or_default r.1 (slice_get h.state.kept (kept_number h.program h.frame.space r.0))) rs
+kept_now h rs = map (λ r. or_default r.1 (slice_get h.kept (kept_number h.program h.frame.space r.0))) rs
 
 -- what a loop's end writes to its kept registers, by their numbers
 abbrev pub kept_after : Here → Leaving → (line : ℕ) → List Tunnel → List (ℕ × Value)
@@ -76,7 +76,7 @@ loop_effect h e count stop i lines body (progress.Loop vs ks ended) =
     guard (is_latest_complete h ks)
     (if has_ended h.outer count stop lines (length ks) (latest (readers_of h ks))
     then Some (loop_ends h e vs ks lines body)
-    else guard (nat_lt h.state.begun h.state.limit) (Some (loop_goes_on h e vs ks count stop i lines body)))
+    else guard h.has_room (Some (loop_goes_on h e vs ks count stop i lines body)))
 loop_effect h e count stop i lines body _ = None
 
 -- ---- cases
@@ -93,7 +93,7 @@ case_ends h e lines arms k f = guard (is_complete f) (Some (gives (progress.Case
 -- a case opens the branch with the selector's value, and gives its results once that is complete
 abbrev pub case_effect : Here → Entry → (selector : Wire) → List Tunnel → List Arm → Progress → Option Effect
 case_effect h e w lines arms progress.Idle = option_map (branch_opens h e lines) (chosen (value_on h.outer w) arms)
-case_effect h e w lines arms (progress.Case k ended) = option_and_then (case_ends h e lines arms k) (slice_get h.state.frames k)
+case_effect h e w lines arms (progress.Case k ended) = option_and_then (case_ends h e lines arms k) (slice_get h.frames k)
 case_effect h e w lines arms _ = None
 
 -- ---- sequences

@@ -1,6 +1,6 @@
 use Rattle.g_frames.proofs.RunLemmas.{composes, frames_stay, not_refused, allowed_not_refused}
 use Rattle.g_frames.proofs.RestLemmas.{rest_tested, rest_refuses}
-use Rattle.g_frames.proofs.LimitLemmas.{keeps_limit}
+use Rattle.g_frames.proofs.LimitLemmas.{keeps_limit, spends_all}
 use Rattle.g_frames.proofs.laws.run_laws.Goals as goal
 
 pub returns-clause-composes : goal.returns-clause-composes
@@ -17,3 +17,6 @@ returns-clause-refuses c = λ p k xs s. (not_refused p k xs s, allowed_not_refus
 
 pub returns-clause-rests : goal.returns-clause-rests
 returns-clause-rests c = λ p s. (rest_refuses p s, rest_tested p s)
+
+pub returns-clause-spent : goal.returns-clause-spent
+returns-clause-spent c = λ p limit s is. spends_all p limit s (keeps_limit p is.controls limit is.trace s is.after_it)
