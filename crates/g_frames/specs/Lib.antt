@@ -1,0 +1,13 @@
+pub mod Contents
+pub mod Program
+pub mod Panels
+pub mod State
+pub mod Effects
+pub mod Operations
+pub mod Structures
+pub mod InPlace
+pub mod Calls
+pub mod Fire
+pub mod Run
+pub mod Print
+pub mod Laws
