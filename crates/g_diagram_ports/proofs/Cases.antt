@@ -6,7 +6,7 @@ use Rattle.g_diagram.specs.Lines.{Wire, Arm, Entry, Kind}
 use Rattle.g_diagram.specs.Ports.{Port}
 use Rattle.g_diagram_ports.specs.Standing.{IsAmong}
 use Rattle.g_diagram_ports.specs.Tunnels.{AreNewBy, HaveOwnBranches, LookUp, all_first_tunnels, branches_by, branches_past, case_of, first_by, first_tunnels, in_first, is_arm, look_after, look_by, look_past, named_line, tunnel_port, tunnels_in}
-use Rattle.g_diagram_ports.proofs.Among.{FromTunnel, HasTunnel, among_either, among_left, among_right, or_cases, tunnel_among, tunnel_from}
+use Rattle.g_diagram_ports.proofs.Among.{FromTunnel, HasTunnel, among_either, among_left, among_right, or_cases, or_left, tunnel_among, tunnel_from}
 
 pub record IsCaseOf (l : ℕ) (c : List Tunnel × List Arm) (first : ℕ) (ts : List Tunnel) (arms : List Arm) : Type 0 where
   pub at : l + 1 ≡ first
@@ -57,12 +57,12 @@ here_looks : (look : LookUp) (l : ℕ) (c : Option (List Tunnel × List Arm)) (f
     → look_by look l c d name ≡ named_line first ts name
 here_looks look l None first ts arms d name h arm = absurd h
 here_looks look l (Some c) first ts arms d name h arm =
-    look_here (is_arm c.1 d) (named_line (l + 1) c.0 name) (look d name) (ap (λ (as : List Arm). is_arm as d) h.branches ∙ arm)
+    look_here (is_arm c.1 d) (named_line (l + 1) c.0 name) (look d name) (ap (λ (bs : List Arm). is_arm bs d) h.branches ∙ arm)
     ∙ ap (λ k. named_line k c.0 name) h.at ∙ ap (λ (us : List Tunnel). named_line first us name) h.lines
 
 here_branch : (before : ℕ → Bool) (l : ℕ) (c : Option (List Tunnel × List Arm)) (first : ℕ) (ts : List Tunnel) (arms : List Arm) (d : ℕ) → IsCase l c first ts arms → is_arm arms d ≡ true → branches_by before c d ≡ true
 here_branch before l None first ts arms d h arm = absurd h
-here_branch before l (Some c) first ts arms d h arm = look_here (is_arm c.1 d) true (before d) (ap (λ (as : List Arm). is_arm as d) h.branches ∙ arm)
+here_branch before l (Some c) first ts arms d h arm = look_here (is_arm c.1 d) true (before d) (ap (λ (bs : List Arm). is_arm bs d) h.branches ∙ arm)
 
 -- a branch looks up the tunnels of its own case
 pub looks_own : (look : LookUp) (before : ℕ → Bool) (es : List Entry) (first : ℕ) (ts : List Tunnel) (arms : List Arm) (d : ℕ) (name : List ℕ) → HaveOwnBranches before es → HasCase es first ts arms
@@ -106,7 +106,7 @@ IsFirstArm (a ∷ arms) d = a.body ≡ d
 
 pub first_is_arm : (arms : List Arm) (d : ℕ) → IsFirstArm arms d → is_arm arms d ≡ true
 first_is_arm [] d h = absurd h
-first_is_arm (a ∷ arms) d h = ap (λ b. b || is_arm arms d) (let e : a.body ≡ d = h in grind (arith, e))
+first_is_arm (a ∷ arms) d h = or_left (a.body == d) (is_arm arms d) (let e : a.body ≡ d = h in grind (arith, e))
 
 pub has_first : (arms : List Arm) (d : ℕ) → is_arm arms d ≡ true → (b : ℕ) × IsFirstArm arms b
 has_first [] d h = cc
@@ -150,7 +150,7 @@ first_here l0 None first ts arms d l w is arm has = absurd is
 first_here l0 (Some c) first ts arms d l w is arm has =
     let P : ℕ → Type 0 = λ k. IsAmong (tunnel_port l d w) (in_first k c.0 c.1) in
     let Q : List Tunnel → Type 0 = λ us. IsAmong (tunnel_port l d w) (in_first first us c.1) in
-    let R : List Arm → Type 0 = λ as. IsAmong (tunnel_port l d w) (in_first first ts as) in
+    let R : List Arm → Type 0 = λ bs. IsAmong (tunnel_port l d w) (in_first first ts bs) in
     subst P (sym is.at) (subst Q (sym is.lines) (subst R (sym is.branches) (arm_among first ts arms d l w arm has)))
 
 pub first_among : (es : List Entry) (first : ℕ) (ts : List Tunnel) (arms : List Arm) (d l : ℕ) (w : Wire) → HasCase es first ts arms → IsFirstArm arms d → HasTunnel first ts l w

@@ -1,6 +1,7 @@
 -- The ports that are kept stand for all.
 use Rattle.std.proofs.Common.{◌≡◌, ◌⊎◌, inl, inr, ⊎_elim, ℕ, ◌+◌, ◌≤◌, ◌<◌, ◌==◌, Bool, true, false, ◌&&◌, ◌||◌, List, [], ◌∷◌, ◌++◌, map, refl, ap, sym, ◌∙◌, subst, arith}
 use Rattle.std.specs.Prelude.{nat_lt, Option, Some, None}
+use Rattle.std.proofs.lemmas.List.{append-nil}
 use Rattle.g_diagram.specs.declared.node.Tunnel.{Tunnel}
 use Rattle.g_diagram.specs.declared.node.Tunnel.TheVariants as line
 use Rattle.g_diagram.specs.declared.hierarchy.Vi.{Vi}
@@ -10,7 +11,7 @@ use Rattle.g_diagram.specs.Ports.{Port, are_joined, is_before, port, ports_from,
 use Rattle.g_diagram_ports.specs.Standing.{HasStandIn, IsAmong, IsSecond, Replaces, StandFor}
 use Rattle.g_diagram_ports.specs.Tunnels.{HaveOwnBranches, LookUp, all_first_tunnels, all_looked_up, all_outer_lines, case_of, inner_wire, is_arm, kept_ports, look_after, named_line, no_branch, nowhere, outer_border, outer_lines, outer_ports, tunnel_port}
 use Rattle.g_diagram_ports.proofs.Among.{AreJoined, FirstNamed, HasTunnel, IsHere, LookedUp, among_either, among_left, among_right, and_both, and_left, and_right, are_alike, first_named, joined, looked_among, looked_from, named_has, or_cases, or_left, or_right}
-use Rattle.g_diagram_ports.proofs.Cases.{HasCase, InFirst, Meant, first_among, first_is_arm, has_first, in_first_from, looks_own, meant}
+use Rattle.g_diagram_ports.proofs.Cases.{HasCase, InFirst, IsCase, IsCaseOf, IsFirstArm, Meant, first_among, first_is_arm, has_first, in_first_from, looks_own, meant}
 use Rattle.g_diagram_ports.proofs.Lines.{ports_append}
 
 -- what a tunnel of a case gives in a branch
@@ -25,10 +26,6 @@ pub record IsInner (es : List Entry) (p : Port) : Type 0 where
   pub wire : Wire
   pub has : HasTunnel first tunnels line wire
   pub is : p ≡ tunnel_port line diagram wire
-
-nil_right : {X : Type 0} (xs : List X) → xs ++ [] ≡ xs
-nil_right [] = refl
-nil_right (x ∷ xs) = ap (λ ys. x ∷ ys) (nil_right xs)
 
 -- a diagram stands in a list
 abbrev IsDiagram : ℕ → List ℕ → Type 0
@@ -75,17 +72,17 @@ module _ (e : Entry) (bodies : List ℕ) where
   ports_at form l t = ports_from (line_of form l t) 1 (form t)
 
   split_line : (l : ℕ) (t : Tunnel) → ports_at case_border l t ≡ ports_at outer_border l t ++ inner_ports bodies l (inner_wire t)
-  split_line l (line.Tunnel outer inner) = ap (λ ps. port (line_of case_border l (line.Tunnel outer inner)) 1 (consumer Outside outer) (Some e.line) e.diagram ∷ ps) (nil_right (map (λ d. tunnel_port l d inner) bodies))
-  split_line l (line.Register initial inner next last) = sym (nil_right (ports_at outer_border l (line.Register initial inner next last)))
-  split_line l (line.Kept t inner next last) = sym (nil_right (ports_at outer_border l (line.Kept t inner next last)))
-  split_line l (line.Last inner outer) = sym (nil_right (ports_at outer_border l (line.Last inner outer)))
-  split_line l (line.Gather inner outer) = sym (nil_right (ports_at outer_border l (line.Gather inner outer)))
-  split_line l (line.Index array inner) = sym (nil_right (ports_at outer_border l (line.Index array inner)))
-  split_line l (line.Result outer default) = sym (nil_right (ports_at outer_border l (line.Result outer default)))
-  split_line l (line.Carry before inner) = sym (nil_right (ports_at outer_border l (line.Carry before inner)))
-  split_line l (line.Ref reference inner next same code) = sym (nil_right (ports_at outer_border l (line.Ref reference inner next same code)))
-  split_line l (line.Element array index inner next outer) = sym (nil_right (ports_at outer_border l (line.Element array index inner next outer)))
-  split_line l (line.Field field cluster inner next outer) = sym (nil_right (ports_at outer_border l (line.Field field cluster inner next outer)))
+  split_line l (line.Tunnel outer inner) = ap (λ ps. port (line_of case_border l (line.Tunnel outer inner)) 1 (consumer Outside outer) (Some e.line) e.diagram ∷ ps) (append-nil (map (λ d. tunnel_port l d inner) bodies))
+  split_line l (line.Register initial inner next last) = sym (append-nil (ports_at outer_border l (line.Register initial inner next last)))
+  split_line l (line.Kept t inner next last) = sym (append-nil (ports_at outer_border l (line.Kept t inner next last)))
+  split_line l (line.Last inner outer) = sym (append-nil (ports_at outer_border l (line.Last inner outer)))
+  split_line l (line.Gather inner outer) = sym (append-nil (ports_at outer_border l (line.Gather inner outer)))
+  split_line l (line.Index array inner) = sym (append-nil (ports_at outer_border l (line.Index array inner)))
+  split_line l (line.Result outer default) = sym (append-nil (ports_at outer_border l (line.Result outer default)))
+  split_line l (line.Carry before inner) = sym (append-nil (ports_at outer_border l (line.Carry before inner)))
+  split_line l (line.Ref reference inner next same code) = sym (append-nil (ports_at outer_border l (line.Ref reference inner next same code)))
+  split_line l (line.Element array index inner next outer) = sym (append-nil (ports_at outer_border l (line.Element array index inner next outer)))
+  split_line l (line.Field field cluster inner next outer) = sym (append-nil (ports_at outer_border l (line.Field field cluster inner next outer)))
 
   abbrev all : (l : ℕ) → List Tunnel → List Port
   all l ts = ports_in (border_lines e bodies [] case_border l ts)
@@ -211,18 +208,18 @@ module _ (free : Freedom) where
       (λ k same none is has arm. let P : Option (List Tunnel × List Arm) → Type 0 = λ c. IsCase e.line c first ts arms in absurd (subst P none is))
       case k
     where
-      case : (selector : Wire) (us : List Tunnel) (as : List Arm) → IsCaseOf e.line (us, as) first ts arms → HasTunnel first ts l w → is_arm arms d ≡ true
-          → IsAmong (tunnel_port l d w) (ports_in (kind_lines free e (Case selector us as)))
-      case selector us as is has arm =
+      case : (selector : Wire) (us : List Tunnel) (bs : List Arm) → IsCaseOf e.line (us, bs) first ts arms → HasTunnel first ts l w → is_arm arms d ≡ true
+          → IsAmong (tunnel_port l d w) (ports_in (kind_lines free e (Case selector us bs)))
+      case selector us bs is has arm =
           let P : ℕ → Type 0 = λ n. HasTunnel n us l w in
           let Q : List Tunnel → Type 0 = λ xs. HasTunnel first xs l w in
           let R : List Arm → Type 0 = λ xs. is_arm xs d ≡ true in
           let there : HasTunnel (e.line + 1) us l w = subst P (sym is.at) (subst Q (sym is.lines) has) in
-          let body : IsDiagram d (bodies_of as) = arm_body as d (subst R (sym is.branches) arm) in
-          let gives : List Line = map (give_line e) as in
-          let inner : List Line = border_lines e (bodies_of as) [] case_border (e.line + 1) us in
+          let body : IsDiagram d (bodies_of bs) = arm_body bs d (subst R (sym is.branches) arm) in
+          let gives : List Line = map (give_line e) bs in
+          let inner : List Line = border_lines e (bodies_of bs) [] case_border (e.line + 1) us in
           let S : List Port → Type 0 = IsAmong (tunnel_port l d w) in
-          inr (subst S (sym (ports_append inner gives)) (among_left (tunnel_port l d w) (ports_in inner) (ports_in gives) (border_inner e (bodies_of as) (e.line + 1) us l d w there body)))
+          inr (subst S (sym (ports_append inner gives)) (among_left (tunnel_port l d w) (ports_in inner) (ports_in gives) (border_inner e (bodies_of bs) (e.line + 1) us l d w there body)))
 
   entries_either : (es : List Entry) (p : Port) → IsAmong p (ports_in (entries_lines free es)) → IsAmong p (ports_in (all_outer_lines free es)) ⊎ IsInner es p
   entries_either [] p h = inl h
@@ -342,6 +339,17 @@ module _ (free : Freedom) (vi : Vi) (es : List Entry) (own_branches : HaveOwnBra
       (λ more. ⊎_elim (λ f. first_within p (in_first_from es p f)) (λ l. looked_within p (looked_from look own p l)) (among_either p firsts looked more))
       (among_either p own (firsts ++ looked) h)
 
+  ps_either : (p : Port) → IsAmong p ps → IsAmong p own ⊎ IsInner es p
+  ps_either p h =
+      let P : List Port → Type 0 = IsAmong p in
+      let controls : List Port = ports_in (control_lines 1 vi.panel) in
+      let outside : List Port = ports_in (all_outer_lines free es) in
+      let joint : own ≡ controls ++ outside = ports_append (control_lines 1 vi.panel) (all_outer_lines free es) in
+      ⊎_elim
+      (λ here. inl (subst P (sym joint) (among_left p controls outside here)))
+      (λ after. ⊎_elim (λ out. inl (subst P (sym joint) (among_right p controls outside out))) inr (entries_either free es p after))
+      (among_either p controls (ports_in (entries_lines free es)) (subst P (ports_append (control_lines 1 vi.panel) (entries_lines free es)) h))
+
   -- the tunnel that a name means, in a branch of its case
   tunnel_looked : (first : ℕ) (ts : List Tunnel) (arms : List Arm) (d : ℕ) (name : List ℕ) (k : ℕ) → HasCase es first ts arms → is_arm arms d ≡ true → named_line first ts name ≡ Some k → look d name ≡ Some k
   tunnel_looked first ts arms d name k case arm named = looks_own nowhere no_branch es first ts arms d name own_branches case arm ∙ named
@@ -444,3 +452,23 @@ module _ (free : Freedom) (vi : Vi) (es : List Entry) (own_branches : HaveOwnBra
 
     stands : HasStandIn ps qs inner
     stands = record { source = refl; free = refl; border = refl; others = others; again = again }
+
+  -- nothing is joined with a tunnel without a name
+  no_name : (name : List ℕ) → None ≡ Some name → ⊥
+  no_name name e = cc
+
+  inner_stands : (first : ℕ) (ts : List Tunnel) (arms : List Arm) (case : HasCase es first ts arms) (d : ℕ) (arm : is_arm arms d ≡ true) (l : ℕ) (w : Wire) → HasTunnel first ts l w → HasStandIn ps qs (tunnel_port l d w)
+  inner_stands first ts arms case d arm l None has = record {
+    source = refl; free = refl; border = refl;
+    others = λ q among h. let j : AreJoined (tunnel_port l d None) q = joined (tunnel_port l d None) q h in absurd (no_name j.name j.left);
+    again = λ s among source before h. let j : AreJoined s (tunnel_port l d None) = joined s (tunnel_port l d None) h in absurd (no_name j.name j.right);
+  }
+  inner_stands first ts arms case d arm l (Some name) has = stands first ts arms case d arm l name has
+
+  each : (p : Port) → IsAmong p ps → IsAmong p qs ⊎ HasStandIn ps qs p
+  each p h = ⊎_elim (λ o. inl (own_kept p o))
+      (λ (r : IsInner es p). let P : Port → Type 0 = HasStandIn ps qs in inr (subst P (sym r.is) (inner_stands r.first r.tunnels r.arms r.case r.diagram r.arm r.line r.wire r.has)))
+      (ps_either p h)
+
+  pub stand_for : StandFor ps qs
+  stand_for = record { within = within; each = each }
