@@ -1,37 +1,15 @@
 -- Ports in lists, and the tunnels among them.
-use Rattle.std.proofs.Common.{◌≡◌, ◌⊎◌, inl, inr, ⊎_elim, ℕ, ◌+◌, ◌≤◌, ◌<◌, ◌==◌, Bool, true, false, not, ◌&&◌, ◌||◌, List, [], ◌∷◌, ◌++◌, map, refl, ap, sym, ◌∙◌, subst, arith}
+use Rattle.std.proofs.Common.{◌≡◌, ◌⊎◌, inl, inr, ⊎_elim, ℕ, ◌+◌, ◌≤◌, ◌==◌, Bool, true, false, List, [], ◌∷◌, ◌++◌, refl, ap, sym, ◌∙◌, subst, arith}
 use Rattle.std.specs.Prelude.{if◌then◌else◌, Option, Some, None}
 use Rattle.std.specs.Option.{option_or}
 use Rattle.std.specs.Str.{bytes_eq}
+use Rattle.std.proofs.lemmas.Bool.{and_from, and_parts}
 use Rattle.std.proofs.lemmas.Slice.Eq.{bytes_eq-Decides}
 use Rattle.g_diagram.specs.declared.node.Tunnel.{Tunnel}
 use Rattle.g_diagram.specs.Lines.{Wire}
 use Rattle.g_diagram.specs.Ports.{Port, are_joined, same_wire}
 use Rattle.g_diagram_ports.specs.Standing.{IsAmong}
 use Rattle.g_diagram_ports.specs.Tunnels.{LookUp, all_looked_up, inner_wire, line_ports, looked_up, named_here, named_line, tunnel_port, tunnel_ports, tunnels_in}
-
-pub or_cases : (a b : Bool) → (a || b) ≡ true → (a ≡ true) ⊎ (b ≡ true)
-or_cases true b h = inl refl
-or_cases false b h = inr h
-
-pub or_left : (a b : Bool) → a ≡ true → (a || b) ≡ true
-or_left a b h = ap (λ x. x || b) h
-
-pub or_right : (a b : Bool) → b ≡ true → (a || b) ≡ true
-or_right true b h = refl
-or_right false b h = h
-
-pub and_left : (a b : Bool) → (a && b) ≡ true → a ≡ true
-and_left true b h = refl
-and_left false b h = h
-
-pub and_right : (a b : Bool) → (a && b) ≡ true → b ≡ true
-and_right true b h = h
-and_right false b h = cc
-
-pub and_both : (a b : Bool) → a ≡ true → b ≡ true → (a && b) ≡ true
-and_both true b h k = k
-and_both false b h k = h
 
 pub among_left : (p : Port) (xs ys : List Port) → IsAmong p xs → IsAmong p (xs ++ ys)
 among_left p [] ys h = absurd h
@@ -147,11 +125,11 @@ one_name (Some a) None h next = cc
 one_name (Some a) (Some b) h next = next a refl (ap Some (sym ((bytes_eq-Decides a b).0 h)))
 
 pub joined : (p q : Port) → are_joined p q ≡ true → AreJoined p q
-joined p q h = one_name p.wire q.wire (and_right (p.diagram == q.diagram) (same_wire p.wire q.wire) h)
-    (λ name l r. record { name = name; diagram = (let e = and_left (p.diagram == q.diagram) (same_wire p.wire q.wire) h in grind (arith, e)); left = l; right = r })
+joined p q h = one_name p.wire q.wire (and_parts (p.diagram == q.diagram) (same_wire p.wire q.wire) h).1
+    (λ name l r. record { name = name; diagram = (let e = (and_parts (p.diagram == q.diagram) (same_wire p.wire q.wire) h).0 in grind (arith, e)); left = l; right = r })
 
 pub are_alike : (p q : Port) (name : List ℕ) → p.diagram ≡ q.diagram → p.wire ≡ Some name → q.wire ≡ Some name → are_joined p q ≡ true
-are_alike p q name d l r = and_both (p.diagram == q.diagram) (same_wire p.wire q.wire) (grind (arith, d))
+are_alike p q name d l r = and_from (p.diagram == q.diagram) (same_wire p.wire q.wire) (grind (arith, d))
     (ap (λ w. same_wire w q.wire) l ∙ ap (same_wire (Some name)) r ∙ (bytes_eq-Decides name name).1 refl)
 
 -- tunnels that names of ports mean
@@ -178,7 +156,7 @@ looked_from look [] p h = absurd h
 looked_from look (q ∷ own) p h = ⊎_elim
     (λ here. wire_one look q.diagram q.wire p here (λ name l w e is. record { by = q; among = inl refl; name = name; line = l; wire = w; found = e; is = is }))
     (λ later. let r : LookedUp look own p = looked_from look own p later in
-        record { by = r.by; among = inr r.among; name = r.name; line = r.line; wire = r.wire; found = r.found; is = r.is })
+    record { by = r.by; among = inr r.among; name = r.name; line = r.line; wire = r.wire; found = r.found; is = r.is })
     (among_either p (looked_up look q.diagram q.wire) (all_looked_up look own) h)
 
 wire_among : (look : LookUp) (d : ℕ) (w : Wire) (name : List ℕ) (l : ℕ) → w ≡ Some name → look d name ≡ Some l → IsAmong (tunnel_port l d (Some name)) (looked_up look d w)
@@ -192,6 +170,6 @@ pub looked_among : (look : LookUp) (own : List Port) (q : Port) (name : List ℕ
 looked_among look [] q name l among w found = absurd among
 looked_among look (x ∷ own) q name l among w found = ⊎_elim
     (λ same. let P : Port → Type 0 = λ y. IsAmong (tunnel_port l q.diagram (Some name)) (looked_up look y.diagram y.wire) in
-        among_left (tunnel_port l q.diagram (Some name)) (looked_up look x.diagram x.wire) (all_looked_up look own) (subst P (sym same) (wire_among look q.diagram q.wire name l w found)))
+    among_left (tunnel_port l q.diagram (Some name)) (looked_up look x.diagram x.wire) (all_looked_up look own) (subst P (sym same) (wire_among look q.diagram q.wire name l w found)))
     (λ later. among_right (tunnel_port l q.diagram (Some name)) (looked_up look x.diagram x.wire) (all_looked_up look own) (looked_among look own q name l later w found))
     among

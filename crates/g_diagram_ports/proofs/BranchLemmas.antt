@@ -6,12 +6,11 @@ use Rattle.std.specs.Map.{update}
 use Rattle.std.specs.Option.{option_or}
 use Rattle.std.specs.Str.{bytes_eq}
 use Rattle.std.proofs.lemmas.Slice.Eq.{bytes_eq-Decides}
-use Rattle.g_diagram.specs.declared.node.Tunnel.{Tunnel}
 use Rattle.g_diagram.specs.Lines as lines
 use Rattle.g_diagram_table.specs.declared.entry.Arm.{Arm}
 use Rattle.g_diagram_table.specs.Seen as table
 use Rattle.g_diagram_ports.specs.Branches.{CaseLines, Cases, line_in, line_of, line_at, case_at}
-use Rattle.g_diagram_ports.specs.Tunnels.{AreNew, HaveOwnBranches, LookUp, branches_past, is_arm, look_after, look_past, inner_wire, named_here, named_line}
+use Rattle.g_diagram_ports.specs.Tunnels.{AreNew, HaveOwnBranches, LookUp, branches_past, is_arm, look_after, look_past}
 
 -- a first value stays
 pub first_kept : {V : Type 0} (b : Bool) (o : Option V) (v : V) → (b ≡ true → o ≡ None) → cond b (Some v) o ≡ option_or o (if b then Some v else None)
@@ -28,18 +27,6 @@ pub name_added : (old new : CaseLines) (bs : List ℕ) (l : ℕ) → ((cs : List
     → (name : List ℕ) → line_in new name ≡ option_or (line_in old name) (if bytes_eq bs name then Some l else None)
 name_added old new bs l updates absent name = updates name ∙ first_kept (bytes_eq bs name) (line_in old name) l
     (λ same. let P : List ℕ → Type 0 = λ cs. line_in old cs ≡ None in subst P ((bytes_eq-Decides bs name).0 same) (none_of (line_in old bs) absent))
-
-or_none : {V : Type 0} (o : Option V) → option_or o None ≡ o
-or_none None = refl
-or_none (Some v) = refl
-
--- the first of some lines, and then of others
-pub named_split : (l : ℕ) (t : Tunnel) (ts : List Tunnel) (name : List ℕ) → named_line l (t ∷ ts) name ≡ option_or (named_line l (t ∷ []) name) (named_line (l + 1) ts name)
-named_split l t ts name = ap (λ o. option_or o (named_line (l + 1) ts name)) (sym (or_none (named_here l (inner_wire t) name)))
-
-pub or_assoc : {V : Type 0} (a b c : Option V) → option_or (option_or a b) c ≡ option_or a (option_or b c)
-or_assoc None b c = refl
-or_assoc (Some v) b c = refl
 
 at_left : {X : Type 0} (xs ys : List X) (k : ℕ) → k < length xs → slice_get (xs ++ ys) k ≡ slice_get xs k
 at_left [] ys k lt = absurd (omega (arith, lt))

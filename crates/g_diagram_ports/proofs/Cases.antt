@@ -1,12 +1,13 @@
 -- The cases among nodes, and what their branches look up.
-use Rattle.std.proofs.Common.{◌≡◌, ◌⊎◌, inl, inr, ⊎_elim, ℕ, ◌+◌, ◌==◌, Bool, true, false, ◌||◌, List, [], ◌∷◌, ◌++◌, map, refl, ap, sym, ◌∙◌, subst, arith}
+use Rattle.std.proofs.Common.{◌≡◌, ◌⊎◌, inl, inr, ⊎_elim, ℕ, ◌+◌, ◌==◌, Bool, true, false, List, [], ◌∷◌, refl, ap, sym, ◌∙◌, subst, arith}
 use Rattle.std.specs.Prelude.{if◌then◌else◌, Option, Some, None}
+use Rattle.std.proofs.lemmas.Bool.{or_left}
 use Rattle.g_diagram.specs.declared.node.Tunnel.{Tunnel}
-use Rattle.g_diagram.specs.Lines.{Wire, Arm, Entry, Kind}
+use Rattle.g_diagram.specs.Lines.{Wire, Arm, Entry}
 use Rattle.g_diagram.specs.Ports.{Port}
 use Rattle.g_diagram_ports.specs.Standing.{IsAmong}
 use Rattle.g_diagram_ports.specs.Tunnels.{AreNewBy, HaveOwnBranches, LookUp, all_first_tunnels, branches_by, branches_past, case_of, first_by, first_tunnels, in_first, is_arm, look_after, look_by, look_past, named_line, tunnel_port, tunnels_in}
-use Rattle.g_diagram_ports.proofs.Among.{FromTunnel, HasTunnel, among_either, among_left, among_right, or_cases, or_left, tunnel_among, tunnel_from}
+use Rattle.g_diagram_ports.proofs.Among.{FromTunnel, HasTunnel, among_either, among_left, among_right, tunnel_among, tunnel_from}
 
 pub record IsCaseOf (l : ℕ) (c : List Tunnel × List Arm) (first : ℕ) (ts : List Tunnel) (arms : List Arm) : Type 0 where
   pub at : l + 1 ≡ first
@@ -70,7 +71,7 @@ pub looks_own : (look : LookUp) (before : ℕ → Bool) (es : List Entry) (first
 looks_own look before [] first ts arms d name own h arm = absurd h
 looks_own look before (e ∷ es) first ts arms d name own h arm = ⊎_elim
     (λ here. looks_still (look_past look e.line e.kind) (branches_past before e.kind) es d name own.1 (here_branch before e.line (case_of e.kind) first ts arms d here arm)
-        ∙ here_looks look e.line (case_of e.kind) first ts arms d name here arm)
+    ∙ here_looks look e.line (case_of e.kind) first ts arms d name here arm)
     (λ later. looks_own (look_past look e.line e.kind) (branches_past before e.kind) es first ts arms d name own.1 later arm) h
 
 -- what is looked up stands in a case with that branch
@@ -96,7 +97,7 @@ meant look [] d name l h = inr h
 meant look (e ∷ es) d name l h = ⊎_elim
     (λ m. inl (record { first = m.first; tunnels = m.tunnels; arms = m.arms; case = inr m.case; arm = m.arm; named = m.named }))
     (λ now. meant_here look e.line (case_of e.kind) d name l now
-        (λ ts arms is arm found. inl (record { first = e.line + 1; tunnels = ts; arms = arms; case = inl is; arm = arm; named = found })) inr)
+    (λ ts arms is arm found. inl (record { first = e.line + 1; tunnels = ts; arms = arms; case = inl is; arm = arm; named = found })) inr)
     (meant (look_past look e.line e.kind) es d name l h)
 
 -- the first branch of a case
@@ -135,9 +136,9 @@ pub in_first_from : (es : List Entry) (p : Port) → IsAmong p (all_first_tunnel
 in_first_from [] p h = absurd h
 in_first_from (e ∷ es) p h = ⊎_elim
     (λ here. here_first e.line (case_of e.kind) p here
-        (λ ts arms is d arm from. record { first = e.line + 1; tunnels = ts; arms = arms; case = inl is; diagram = d; arm = arm; from = from }))
+    (λ ts arms is d arm from. record { first = e.line + 1; tunnels = ts; arms = arms; case = inl is; diagram = d; arm = arm; from = from }))
     (λ later. let r : InFirst es p = in_first_from es p later in
-        record { first = r.first; tunnels = r.tunnels; arms = r.arms; case = inr r.case; diagram = r.diagram; arm = r.arm; from = r.from })
+    record { first = r.first; tunnels = r.tunnels; arms = r.arms; case = inr r.case; diagram = r.diagram; arm = r.arm; from = r.from })
     (among_either p (first_tunnels e.line e.kind) (all_first_tunnels es) h)
 
 arm_among : (first : ℕ) (ts : List Tunnel) (arms : List Arm) (d l : ℕ) (w : Wire) → IsFirstArm arms d → HasTunnel first ts l w → IsAmong (tunnel_port l d w) (in_first first ts arms)

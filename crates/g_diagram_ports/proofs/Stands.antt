@@ -1,16 +1,17 @@
 -- The ports that are kept stand for all.
-use Rattle.std.proofs.Common.{◌≡◌, ◌⊎◌, inl, inr, ⊎_elim, ℕ, ◌+◌, ◌≤◌, ◌<◌, ◌==◌, Bool, true, false, ◌&&◌, ◌||◌, List, [], ◌∷◌, ◌++◌, map, refl, ap, sym, ◌∙◌, subst, arith}
+use Rattle.std.proofs.Common.{◌≡◌, ◌⊎◌, inl, inr, ⊎_elim, ℕ, ◌+◌, ◌≤◌, ◌<◌, ◌==◌, true, ◌&&◌, ◌||◌, List, [], ◌∷◌, ◌++◌, map, refl, ap, sym, ◌∙◌, subst, arith}
 use Rattle.std.specs.Prelude.{nat_lt, Option, Some, None}
+use Rattle.std.proofs.lemmas.Bool.{or_cases, or_left, or_right}
 use Rattle.std.proofs.lemmas.List.{append-nil}
 use Rattle.g_diagram.specs.declared.node.Tunnel.{Tunnel}
 use Rattle.g_diagram.specs.declared.node.Tunnel.TheVariants as line
 use Rattle.g_diagram.specs.declared.hierarchy.Vi.{Vi}
 use Rattle.g_diagram.specs.Lines.{Wire, Arm, Entry, Kind, Const, Apply, Shows, Shared, Obtain, Read, Write, Call, Loop, Case, Sequence, InPlace}
-use Rattle.g_diagram.specs.Operands.{Freedom, Line, Operand, Inside, Outside, border, case_border, border_lines, consumer, control_lines, entries_lines, free_source, give_line, kind_lines, plain_line}
+use Rattle.g_diagram.specs.Operands.{Freedom, Line, Operand, Outside, border, case_border, border_lines, consumer, control_lines, entries_lines, give_line, kind_lines, plain_line}
 use Rattle.g_diagram.specs.Ports.{Port, are_joined, is_before, port, ports_from, ports_in}
 use Rattle.g_diagram_ports.specs.Standing.{HasStandIn, IsAmong, IsSecond, Replaces, StandFor}
 use Rattle.g_diagram_ports.specs.Tunnels.{HaveOwnBranches, LookUp, all_first_tunnels, all_looked_up, all_outer_lines, case_of, inner_wire, is_arm, kept_ports, look_after, named_line, no_branch, nowhere, outer_border, outer_lines, outer_ports, tunnel_port}
-use Rattle.g_diagram_ports.proofs.Among.{AreJoined, FirstNamed, HasTunnel, IsHere, LookedUp, among_either, among_left, among_right, and_both, and_left, and_right, are_alike, first_named, joined, looked_among, looked_from, named_has, or_cases, or_left, or_right}
+use Rattle.g_diagram_ports.proofs.Among.{AreJoined, FirstNamed, HasTunnel, IsHere, LookedUp, among_either, among_left, among_right, are_alike, first_named, joined, looked_among, looked_from, named_has}
 use Rattle.g_diagram_ports.proofs.Cases.{HasCase, InFirst, IsCase, IsCaseOf, IsFirstArm, Meant, first_among, first_is_arm, has_first, in_first_from, looks_own, meant}
 use Rattle.g_diagram_ports.proofs.Lines.{ports_append}
 
@@ -96,13 +97,13 @@ module _ (e : Entry) (bodies : List ℕ) where
       let P : List Port → Type 0 = IsAmong p in
       ⊎_elim
       (λ here. ⊎_elim
-          (λ out. inl (among_left p (ports_at outer_border l t) (outer (l + 1) ts) out))
-          (λ inside. inner_from bodies l (inner_wire t) p inside (λ d w body at is. inr (record { diagram = d; body = body; line = l; wire = w; has = inl at; is = is })))
-          (among_either p (ports_at outer_border l t) (inner_ports bodies l (inner_wire t)) (subst P (split_line l t) here)))
+      (λ out. inl (among_left p (ports_at outer_border l t) (outer (l + 1) ts) out))
+      (λ inside. inner_from bodies l (inner_wire t) p inside (λ d w body at is. inr (record { diagram = d; body = body; line = l; wire = w; has = inl at; is = is })))
+      (among_either p (ports_at outer_border l t) (inner_ports bodies l (inner_wire t)) (subst P (split_line l t) here)))
       (λ later. ⊎_elim
-          (λ out. inl (among_right p (ports_at outer_border l t) (outer (l + 1) ts) out))
-          (λ (r : InBorder bodies (l + 1) ts p). inr (record { diagram = r.diagram; body = r.body; line = r.line; wire = r.wire; has = inr r.has; is = r.is }))
-          (border_either (l + 1) ts p later))
+      (λ out. inl (among_right p (ports_at outer_border l t) (outer (l + 1) ts) out))
+      (λ (r : InBorder bodies (l + 1) ts p). inr (record { diagram = r.diagram; body = r.body; line = r.line; wire = r.wire; has = inr r.has; is = r.is }))
+      (border_either (l + 1) ts p later))
       (among_either p (ports_at case_border l t) (all (l + 1) ts) h)
 
   border_outer : (l : ℕ) (ts : List Tunnel) (p : Port) → IsAmong p (outer l ts) → IsAmong p (all l ts)
@@ -120,7 +121,7 @@ module _ (e : Entry) (bodies : List ℕ) where
       let P : List Port → Type 0 = IsAmong (tunnel_port l d w) in
       ⊎_elim
       (λ here. among_left (tunnel_port l d w) (ports_at case_border first t) (all (first + 1) ts)
-          (subst P (sym (split_line first t)) (among_right (tunnel_port l d w) (ports_at outer_border first t) (inner_ports bodies first (inner_wire t)) (inner_among bodies first (inner_wire t) l d w here body))))
+      (subst P (sym (split_line first t)) (among_right (tunnel_port l d w) (ports_at outer_border first t) (inner_ports bodies first (inner_wire t)) (inner_among bodies first (inner_wire t) l d w here body))))
       (λ later. among_right (tunnel_port l d w) (ports_at case_border first t) (all (first + 1) ts) (border_inner (first + 1) ts l d w later body))
       h
 
@@ -177,12 +178,12 @@ module _ (free : Freedom) where
           ⊎_elim
           (λ here. inl (inl here))
           (λ later. ⊎_elim
-              (λ b. ⊎_elim
-                  (λ out. inl (inr (subst P (sym (ports_append outside gives)) (among_left p (ports_in outside) (ports_in gives) out))))
-                  (λ inside. inr (record { selector = selector; tunnels = ts; arms = arms; kind = refl; inside = inside }))
-                  (border_either e (bodies_of arms) (e.line + 1) ts p b))
-              (λ g. inl (inr (subst P (sym (ports_append outside gives)) (among_right p (ports_in outside) (ports_in gives) g))))
-              (among_either p (ports_in inner) (ports_in gives) (subst P (ports_append inner gives) later)))
+          (λ b. ⊎_elim
+          (λ out. inl (inr (subst P (sym (ports_append outside gives)) (among_left p (ports_in outside) (ports_in gives) out))))
+          (λ inside. inr (record { selector = selector; tunnels = ts; arms = arms; kind = refl; inside = inside }))
+          (border_either e (bodies_of arms) (e.line + 1) ts p b))
+          (λ g. inl (inr (subst P (sym (ports_append outside gives)) (among_right p (ports_in outside) (ports_in gives) g))))
+          (among_either p (ports_in inner) (ports_in gives) (subst P (ports_append inner gives) later)))
           h
 
   kind_outer : (e : Entry) (k : Kind) (p : Port) → IsAmong p (ports_in (outer_lines free e k)) → IsAmong p (ports_in (kind_lines free e k))
@@ -197,9 +198,9 @@ module _ (free : Freedom) where
           let P : List Port → Type 0 = IsAmong p in
           ⊎_elim inl
           (λ later. inr (subst P (sym (ports_append inner gives)) (⊎_elim
-              (λ out. among_left p (ports_in inner) (ports_in gives) (border_outer e (bodies_of arms) (e.line + 1) ts p out))
-              (λ g. among_right p (ports_in inner) (ports_in gives) g)
-              (among_either p (ports_in outside) (ports_in gives) (subst P (ports_append outside gives) later)))))
+          (λ out. among_left p (ports_in inner) (ports_in gives) (border_outer e (bodies_of arms) (e.line + 1) ts p out))
+          (λ g. among_right p (ports_in inner) (ports_in gives) g)
+          (among_either p (ports_in outside) (ports_in gives) (subst P (ports_append outside gives) later)))))
           h
 
   case_inner : (e : Entry) (k : Kind) (first : ℕ) (ts : List Tunnel) (arms : List Arm) (l d : ℕ) (w : Wire) → IsCase e.line (case_of k) first ts arms → HasTunnel first ts l w → is_arm arms d ≡ true
@@ -229,17 +230,25 @@ module _ (free : Freedom) where
       let later : List Line = all_outer_lines free es in
       ⊎_elim
       (λ here. ⊎_elim
-          (λ out. inl (subst P (sym (ports_append now later)) (among_left p (ports_in now) (ports_in later) out)))
-          (λ (r : InKind e e.kind p). let Q : Kind → Type 0 = λ k. IsCase e.line (case_of k) (e.line + 1) r.tunnels r.arms in
-              inr (record {
-                first = e.line + 1; tunnels = r.tunnels; arms = r.arms; case = inl (subst Q (sym r.kind) (record { at = refl; lines = refl; branches = refl })); diagram = r.inside.diagram;
-                arm = body_arm r.arms r.inside.diagram r.inside.body; line = r.inside.line; wire = r.inside.wire; has = r.inside.has; is = r.inside.is;
-              }))
-          (kind_either e e.kind p here))
+      (λ out. inl (subst P (sym (ports_append now later)) (among_left p (ports_in now) (ports_in later) out)))
+      (λ (r : InKind e e.kind p). let Q : Kind → Type 0 = λ k. IsCase e.line (case_of k) (e.line + 1) r.tunnels r.arms in
+      inr (record {
+        first = e.line + 1;
+        tunnels = r.tunnels;
+        arms = r.arms;
+        case = inl (subst Q (sym r.kind) (record { at = refl; lines = refl; branches = refl }));
+        diagram = r.inside.diagram;
+        arm = body_arm r.arms r.inside.diagram r.inside.body;
+        line = r.inside.line;
+        wire = r.inside.wire;
+        has = r.inside.has;
+        is = r.inside.is;
+      }))
+      (kind_either e e.kind p here))
       (λ after. ⊎_elim
-          (λ out. inl (subst P (sym (ports_append now later)) (among_right p (ports_in now) (ports_in later) out)))
-          (λ (r : IsInner es p). inr (record { first = r.first; tunnels = r.tunnels; arms = r.arms; case = inr r.case; diagram = r.diagram; arm = r.arm; line = r.line; wire = r.wire; has = r.has; is = r.is }))
-          (entries_either es p after))
+      (λ out. inl (subst P (sym (ports_append now later)) (among_right p (ports_in now) (ports_in later) out)))
+      (λ (r : IsInner es p). inr (record { first = r.first; tunnels = r.tunnels; arms = r.arms; case = inr r.case; diagram = r.diagram; arm = r.arm; line = r.line; wire = r.wire; has = r.has; is = r.is }))
+      (entries_either es p after))
       (among_either p (ports_in (kind_lines free e e.kind)) (ports_in (entries_lines free es)) (subst P (ports_append (kind_lines free e e.kind) (entries_lines free es)) h))
 
   entries_outer : (es : List Entry) (p : Port) → IsAmong p (ports_in (all_outer_lines free es)) → IsAmong p (ports_in (entries_lines free es))
@@ -369,7 +378,10 @@ module _ (free : Freedom) (vi : Vi) (es : List Entry) (own_branches : HaveOwnBra
 
     replaced : (q : Port) → IsAmong stand qs → d ≡ q.diagram → q.wire ≡ Some name → Replaces qs inner q
     replaced q among diagram wire = record {
-      by = stand; among = among; source = refl; joined = are_alike stand q name diagram refl wire;
+      by = stand;
+      among = among;
+      source = refl;
+      joined = are_alike stand q name diagram refl wire;
       before = line_before l named.line q named.before;
     }
 
@@ -382,7 +394,7 @@ module _ (free : Freedom) (vi : Vi) (es : List Entry) (own_branches : HaveOwnBra
     by_first q r diagram wire =
         let at : r.diagram ≡ d = sym (diagram ∙ ap (λ (p : Port). p.diagram) r.from.is) in
         let there : named_line r.first r.tunnels name ≡ Some named.line =
-            sym (looks_own nowhere no_branch es r.first r.tunnels r.arms r.diagram name own_branches r.case (first_is_arm r.arms r.diagram r.arm)) ∙ ap (λ b. look b name) at ∙ meant_by in
+        sym (looks_own nowhere no_branch es r.first r.tunnels r.arms r.diagram name own_branches r.case (first_is_arm r.arms r.diagram r.arm)) ∙ ap (λ b. look b name) at ∙ meant_by in
         let P : ℕ → Type 0 = λ b. IsAmong (tunnel_port named.line b (Some name)) firsts in
         first_kept stand (subst P at (first_among es r.first r.tunnels r.arms r.diagram named.line (Some name) r.case r.arm (named_has r.first r.tunnels name named.line there)))
 
@@ -412,11 +424,16 @@ module _ (free : Freedom) (vi : Vi) (es : List Entry) (own_branches : HaveOwnBra
     second_tunnel lt =
         let f : (b : ℕ) × IsFirstArm arms b = has_first arms d arm in
         record {
-          first = tunnel_port named.line f.0 (Some name); second = tunnel_port l f.0 (Some name);
+          first = tunnel_port named.line f.0 (Some name);
+          second = tunnel_port l f.0 (Some name);
           among = first_kept (tunnel_port named.line f.0 (Some name)) (first_among es first ts arms f.0 named.line (Some name) case f.1 (named_has first ts name named.line named.found));
           also = first_kept (tunnel_port l f.0 (Some name)) (first_among es first ts arms f.0 l (Some name) case f.1 has);
-          source = refl; later = refl; before = less_before named.line l lt;
-          joined = are_alike (tunnel_port named.line f.0 (Some name)) (tunnel_port l f.0 (Some name)) name refl refl refl; line = refl; operand = refl;
+          source = refl;
+          later = refl;
+          before = less_before named.line l lt;
+          joined = are_alike (tunnel_port named.line f.0 (Some name)) (tunnel_port l f.0 (Some name)) name refl refl refl;
+          line = refl;
+          operand = refl;
         }
 
     inner_kept : named.line ≡ l → (s : Port) → IsAmong s own → s.diagram ≡ d → s.wire ≡ Some name → IsAmong inner qs
@@ -426,8 +443,16 @@ module _ (free : Freedom) (vi : Vi) (es : List Entry) (own_branches : HaveOwnBra
     by_port same s among source before h =
         let j : AreJoined s inner = joined s inner h in
         record {
-          first = s; second = inner; among = own_kept s among; also = inner_kept same s among j.diagram (j.left ∙ ap Some (wire_is (sym j.right)));
-          source = source; later = refl; before = before; joined = h; line = refl; operand = refl;
+          first = s;
+          second = inner;
+          among = own_kept s among;
+          also = inner_kept same s among j.diagram (j.left ∙ ap Some (wire_is (sym j.right)));
+          source = source;
+          later = refl;
+          before = before;
+          joined = h;
+          line = refl;
+          operand = refl;
         }
 
     by_tunnel : named.line ≡ l → (s : Port) → IsInner es s → is_before s inner ≡ true → are_joined s inner ≡ true → IsSecond qs inner
@@ -438,7 +463,7 @@ module _ (free : Freedom) (vi : Vi) (es : List Entry) (own_branches : HaveOwnBra
         let P : Wire → Type 0 = HasTunnel r.first r.tunnels r.line in
         let f : FirstNamed r.first r.tunnels name r.line = first_named r.first r.tunnels r.line name (subst P wire r.has) in
         let meant : Some f.line ≡ Some named.line =
-            sym (tunnel_looked r.first r.tunnels r.arms r.diagram name f.line r.case r.arm f.found) ∙ ap (λ b. look b name) at ∙ meant_by in
+        sym (tunnel_looked r.first r.tunnels r.arms r.diagram name f.line r.case r.arm f.found) ∙ ap (λ b. look b name) at ∙ meant_by in
         let low : f.line ≤ r.line = f.before in
         let one : f.line ≡ named.line = cc in
         let le : l ≤ r.line = omega (arith, low, one, same) in
@@ -459,7 +484,9 @@ module _ (free : Freedom) (vi : Vi) (es : List Entry) (own_branches : HaveOwnBra
 
   inner_stands : (first : ℕ) (ts : List Tunnel) (arms : List Arm) (case : HasCase es first ts arms) (d : ℕ) (arm : is_arm arms d ≡ true) (l : ℕ) (w : Wire) → HasTunnel first ts l w → HasStandIn ps qs (tunnel_port l d w)
   inner_stands first ts arms case d arm l None has = record {
-    source = refl; free = refl; border = refl;
+    source = refl;
+    free = refl;
+    border = refl;
     others = λ q among h. let j : AreJoined (tunnel_port l d None) q = joined (tunnel_port l d None) q h in absurd (no_name j.name j.left);
     again = λ s among source before h. let j : AreJoined s (tunnel_port l d None) = joined s (tunnel_port l d None) h in absurd (no_name j.name j.right);
   }
@@ -470,5 +497,5 @@ module _ (free : Freedom) (vi : Vi) (es : List Entry) (own_branches : HaveOwnBra
       (λ (r : IsInner es p). let P : Port → Type 0 = HasStandIn ps qs in inr (subst P (sym r.is) (inner_stands r.first r.tunnels r.arms r.case r.diagram r.arm r.line r.wire r.has)))
       (ps_either p h)
 
-  pub stand_for : StandFor ps qs
+  pub stand_for : StandFor ps (kept_ports free vi es)
   stand_for = record { within = within; each = each }

@@ -68,10 +68,10 @@ pub plain_added : (ports : Vi → List ports.Port) (known : Known) (vi : Vi) (cs
 plain_added ports known vi cs count coding number xs panel es old named new ex ep ee en e b =
     let lined : List Break = lined_by known number vi.panel (entries_of vi) in
     let whole : new ≡ old ++ (coded_named number cs ++ lined) =
-        e ∙ ap (λ bs. bs ++ lined_by known number panel es) (en ∙ ap (λ zs. old ++ coded_named number zs) ex)
-        ∙ append_assoc old (coded_named number cs) (lined_by known number panel es)
-        ∙ ap (λ items. old ++ (coded_named number cs ++ lined_by known number items es)) ep
-        ∙ ap (λ zs. old ++ (coded_named number cs ++ lined_by known number vi.panel zs)) ee in
+    e ∙ ap (λ bs. bs ++ lined_by known number panel es) (en ∙ ap (λ zs. old ++ coded_named number zs) ex)
+    ∙ append_assoc old (coded_named number cs) (lined_by known number panel es)
+    ∙ ap (λ items. old ++ (coded_named number cs ++ lined_by known number items es)) ep
+    ∙ ap (λ zs. old ++ (coded_named number cs ++ lined_by known number vi.panel zs)) ee in
     ap (λ bs. has_break bs b) whole
     ∙ list_any-append (λ c. is_eq (break_cmp b c)) old (coded_named number cs ++ lined)
     ∙ ap (λ x. has_break old b || x) (same_more (coded_named number cs) (named_in (ports vi) number) lined lined (coding.named number) (λ c. refl) b)

@@ -132,8 +132,8 @@ each_more f vis i vi number next old new whole lt is en adds h b =
     let rest : List Break = each_from f next (drop (i + 1) vis) in
     let test : Break → Bool = λ c. is_eq (break_cmp b c) in
     let all : f number vi ++ rest ≡ each_from f number (drop i vis) =
-        ap (λ n. f number vi ++ each_from f n (drop (i + 1) vis)) en ∙ ap (λ v. f number v ++ each_from f (number + 1) (drop (i + 1) vis)) is
-        ∙ sym (at_drop_more (each_from f number) vis i vi lt) in
+    ap (λ n. f number vi ++ each_from f n (drop (i + 1) vis)) en ∙ ap (λ v. f number v ++ each_from f (number + 1) (drop (i + 1) vis)) is
+    ∙ sym (at_drop_more (each_from f number) vis i vi lt) in
     list_any-append test new rest ∙ ap (λ x. x || has_break rest b) (adds b) ∙ or_assoc (has_break old b) (has_break (f number vi) b) (has_break rest b)
     ∙ ap (λ x. has_break old b || x) (sym (list_any-append test (f number vi) rest)) ∙ sym (list_any-append test old (f number vi ++ rest))
     ∙ ap (λ bs. has_break (old ++ bs) b) all ∙ h b

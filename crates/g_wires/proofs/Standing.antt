@@ -1,5 +1,5 @@
 -- Ports that stand for all give the breaks and the wires of all.
-use Rattle.std.proofs.Common.{◌≡◌, ◌⊎◌, inl, inr, ⊎_elim, ℕ, ◌==◌, Bool, true, false, not, ◌&&◌, ◌||◌, List, [], ◌∷◌, ◌++◌, map, filter, refl, sym, ap, ◌∙◌, subst}
+use Rattle.std.proofs.Common.{◌≡◌, ◌⊎◌, inl, inr, ⊎_elim, ℕ, Bool, true, false, not, ◌&&◌, ◌||◌, List, [], ◌∷◌, ◌++◌, map, filter, refl, sym, ap, ◌∙◌, subst}
 use Rattle.std.specs.Prelude.{Option, Some, None, is_some}
 use Rattle.std.specs.List.{list_any}
 use Rattle.std.specs.Ordering.{is_eq}
@@ -102,9 +102,9 @@ module _ (ps qs : List Port) (stand : StandFor ps qs) where
       any_filter test (λ p. p.is_source) qs ∙ same_bool (list_any both qs) (list_any both ps)
       (λ h. let r : Has both qs = has_one both qs h in is_had both ps r.port (stand.within r.port r.among) r.passes)
       (λ h. let r : Has both ps = has_one both ps h in ⊎_elim
-          (λ kept. is_had both qs r.port kept r.passes)
-          (λ s. found (other r.port s (and_right r.port.is_source (test r.port) r.passes)))
-          (stand.each r.port r.among))
+      (λ kept. is_had both qs r.port kept r.passes)
+      (λ s. found (other r.port s (and_right r.port.is_source (test r.port) r.passes)))
+      (stand.each r.port r.among))
       ∙ sym (any_filter test (λ p. p.is_source) ps)
 
   -- 1
@@ -115,7 +115,7 @@ module _ (ps qs : List Port) (stand : StandFor ps qs) where
   unsourced_same : (vi : ℕ) → SameBreaks (map (break vi 1) (unsourced qs)) (map (break vi 1) (unsourced ps))
   unsourced_same vi = rule_same vi 1 (lacks_source qs) (lacks_source ps) (consumers qs) (consumers ps) (λ b.
       side_agree (λ p. not p.is_source) (λ p. lacks_source qs p && is_at vi 1 b p) (λ p. lacks_source ps p && is_at vi 1 b p) qs
-          (λ p among. ap (λ x. is_wired p && not x && is_at vi 1 b p) (given_same p among))
+      (λ p among. ap (λ x. is_wired p && not x && is_at vi 1 b p) (given_same p among))
       ∙ consumers_same (λ p. lacks_source ps p && is_at vi 1 b p))
 
   -- 2
@@ -123,7 +123,8 @@ module _ (ps qs : List Port) (stand : StandFor ps qs) where
   before_same q among = sources_same (λ s. is_before s q && are_joined s q) (λ p r h.
       let s : Replaces qs p q = r.others q among (and_right (is_before p q) (are_joined p q) h) in
       record {
-        port = s.by; among = s.among;
+        port = s.by;
+        among = s.among;
         passes = and_both s.by.is_source (is_before s.by q && are_joined s.by q) s.source
             (and_both (is_before s.by q) (are_joined s.by q) (s.before (and_left (is_before p q) (are_joined p q) h)) s.joined);
       })
@@ -137,26 +138,27 @@ module _ (ps qs : List Port) (stand : StandFor ps qs) where
       let f : Has test ps = has_one test ps (sym (any_filter earlier (λ s. s.is_source) ps) ∙ any) in
       let both : earlier f.port ≡ true = and_right f.port.is_source (earlier f.port) f.passes in
       let s : IsSecond qs p = r.again f.port f.among (and_left f.port.is_source (earlier f.port) f.passes)
-          (and_left (is_before f.port p) (are_joined f.port p) both) (and_right (is_before f.port p) (are_joined f.port p) both) in
+      (and_left (is_before f.port p) (are_joined f.port p) both) (and_right (is_before f.port p) (are_joined f.port p) both) in
       let before : Port → Bool = λ t. is_before t s.second && are_joined t s.second in
       let again : list_any before (sources ps) ≡ true =
-          any_filter before (λ t. t.is_source) ps
-          ∙ is_had (λ t. t.is_source && before t) ps s.first (stand.within s.first s.among)
-              (and_both s.first.is_source (before s.first) s.source (and_both (is_before s.first s.second) (are_joined s.first s.second) s.before s.joined)) in
+      any_filter before (λ t. t.is_source) ps
+      ∙ is_had (λ t. t.is_source && before t) ps s.first (stand.within s.first s.among)
+      (and_both s.first.is_source (before s.first) s.source (and_both (is_before s.first s.second) (are_joined s.first s.second) s.before s.joined)) in
       let here : is_at vi 2 b s.second ≡ true =
-          ap (λ l. is_eq (break_cmp b (break vi 2 (record { line = l; operand = s.second.operand })))) s.line
-          ∙ ap (λ k. is_eq (break_cmp b (break vi 2 (record { line = p.line; operand = k })))) s.operand ∙ and_right (is_repeated ps p) (is_at vi 2 b p) h in
+      ap (λ l. is_eq (break_cmp b (break vi 2 (record { line = l; operand = s.second.operand })))) s.line
+      ∙ ap (λ k. is_eq (break_cmp b (break vi 2 (record { line = p.line; operand = k })))) s.operand ∙ and_right (is_repeated ps p) (is_at vi 2 b p) h in
       record {
-        port = s.second; among = s.also;
+        port = s.second;
+        among = s.also;
         passes = and_both s.second.is_source (is_repeated ps s.second && is_at vi 2 b s.second) s.later
             (and_both (is_repeated ps s.second) (is_at vi 2 b s.second)
-                (and_both (is_wired s.second) (list_any before (sources ps)) (wired_if_joined s.first s.second s.joined) again) here);
+            (and_both (is_wired s.second) (list_any before (sources ps)) (wired_if_joined s.first s.second s.joined) again) here);
       }
 
   repeated_same : (vi : ℕ) → SameBreaks (map (break vi 2) (repeated qs)) (map (break vi 2) (repeated ps))
   repeated_same vi = rule_same vi 2 (is_repeated qs) (is_repeated ps) (sources qs) (sources ps) (λ b.
       side_agree (λ p. p.is_source) (λ p. is_repeated qs p && is_at vi 2 b p) (λ p. is_repeated ps p && is_at vi 2 b p) qs
-          (λ p among. ap (λ x. is_wired p && x && is_at vi 2 b p) (before_same p among))
+      (λ p among. ap (λ x. is_wired p && x && is_at vi 2 b p) (before_same p among))
       ∙ sources_same (λ p. is_repeated ps p && is_at vi 2 b p) (λ p r h. second_at vi b p r h))
 
   -- 3
@@ -168,7 +170,7 @@ module _ (ps qs : List Port) (stand : StandFor ps qs) where
   unused_same : (vi : ℕ) → SameBreaks (map (break vi 3) (unused qs)) (map (break vi 3) (unused ps))
   unused_same vi = rule_same vi 3 (lacks_consumer qs) (lacks_consumer ps) (sources qs) (sources ps) (λ b.
       side_agree (λ p. p.is_source) (λ p. lacks_consumer qs p && is_at vi 3 b p) (λ p. lacks_consumer ps p && is_at vi 3 b p) qs
-          (λ p among. ap (λ x. is_wired p && (not p.is_free && not x) && is_at vi 3 b p) (consumers_same (λ c. are_joined p c)))
+      (λ p among. ap (λ x. is_wired p && (not p.is_free && not x) && is_at vi 3 b p) (consumers_same (λ c. are_joined p c)))
       ∙ sources_same (λ p. lacks_consumer ps p && is_at vi 3 b p) (λ p r h. absurd (none_lacks p b vi r.free h)))
 
   -- 4
@@ -189,5 +191,5 @@ module _ (ps qs : List Port) (stand : StandFor ps qs) where
   pub wires_same : (a b : ℕ) → has_wire qs a b ≡ has_wire ps a b
   wires_same a b =
       sources_same (λ s. list_any (feeds a b s) (consumers qs)) (λ p r h. let f : Has (feeds a b p) (consumers qs) = has_one (feeds a b p) (consumers qs) h in
-          absurd (no_node a b p p.node r.border f.port f.passes))
+      absurd (no_node a b p p.node r.border f.port f.passes))
       ∙ ap (λ (test : Port → Bool). list_any test (sources ps)) (λ i s. consumers_same (feeds a b s) i)

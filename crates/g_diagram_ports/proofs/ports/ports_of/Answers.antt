@@ -21,14 +21,14 @@ returns c =
     let own : List Port = outer_ports free vi es in
     let look : look_in c.in_ok-known.known ≡ look_after nowhere es = λ i d name. c.in_ok-known.ensures.look d name i in
     let given : map seen c.push_all_looked_up.new.ports.items ≡ all_first_tunnels es ++ all_looked_up (look_after nowhere es) own =
-        c.in_ok-push_all_looked_up.ensures
-        ∙ ap (λ ps. ps ++ all_looked_up (look_in c.in_ok-known.known) (map seen c.as_slice.result.now)) (c.in_ok-push_all_first.ensures ∙ ap (λ ps. map seen ps ++ all_first_tunnels es) c.new-given.ensures.items)
-        ∙ ap (λ (l : LookUp). all_first_tunnels es ++ all_looked_up l (map seen c.as_slice.result.now)) look
-        ∙ ap (λ ps. all_first_tunnels es ++ all_looked_up (look_after nowhere es) ps) (ap (map seen) c.as_slice.ensures.value ∙ c.in_ok-ports.ensures) in
+    c.in_ok-push_all_looked_up.ensures
+    ∙ ap (λ ps. ps ++ all_looked_up (look_in c.in_ok-known.known) (map seen c.as_slice.result.now)) (c.in_ok-push_all_first.ensures ∙ ap (λ ps. map seen ps ++ all_first_tunnels es) c.new-given.ensures.items)
+    ∙ ap (λ (l : LookUp). all_first_tunnels es ++ all_looked_up l (map seen c.as_slice.result.now)) look
+    ∙ ap (λ ps. all_first_tunnels es ++ all_looked_up (look_after nowhere es) ps) (ap (map seen) c.as_slice.ensures.value ∙ c.in_ok-ports.ensures) in
     let whole : map seen c.extend_from_slice.new.self.items ≡ kept_ports free vi es =
-        ap (map seen) c.in_ok-extend_from_slice.ensures.items
-        ∙ map-append seen c.in_ok-ports.ports.items c.as_slice-2.result.now
-        ∙ ap (λ ps. ps ++ map seen c.as_slice-2.result.now) c.in_ok-ports.ensures
-        ∙ ap (λ ps. own ++ ps) (ap (map seen) c.as_slice-2.ensures.value ∙ given) in
+    ap (map seen) c.in_ok-extend_from_slice.ensures.items
+    ∙ map-append seen c.in_ok-ports.ports.items c.as_slice-2.result.now
+    ∙ ap (λ ps. ps ++ map seen c.as_slice-2.result.now) c.in_ok-ports.ensures
+    ∙ ap (λ ps. own ++ ps) (ap (map seen) c.as_slice-2.ensures.value ∙ given) in
     let P : List Port → Type 0 = StandFor (ports_in (control_lines 1 vi.panel ++ entries_lines free es)) in
     subst P (sym whole) (stand_for free vi es c.in_ok-known.ensures.own)

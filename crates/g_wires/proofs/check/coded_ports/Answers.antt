@@ -16,7 +16,7 @@ pub returns : goal.returns
 returns c =
     let P : List Port → Type 0 = All (has_wire_of c.in_ok-numbers.numbers) in
     let Q : List lines.Entry → Type 0 =
-        λ es. StandFor (ports_in (control_lines 1 c.args.vi.now.panel ++ entries_lines (freedom_by c.args.callees.now) es)) (map seen c.in_ok-ports.ports.items) in
+    λ es. StandFor (ports_in (control_lines 1 c.args.vi.now.panel ++ entries_lines (freedom_by c.args.callees.now) es)) (map seen c.in_ok-ports.ports.items) in
     is_coding c.in_ok-numbers.numbers c.in_ok-ports.ports.items (ports_with (freedom_by c.args.callees.now) c.args.vi.now) c.in_ok-coded.coded.items c.len.result
     c.in_ok-numbers.ensures.numbers (subst P c.as_slice.ensures.value c.in_ok-numbers.ensures.all) c.len.ensures.len c.len.ensures.small
     (c.in_ok-coded.ensures ∙ ap (map (code_by c.in_ok-numbers.numbers)) c.as_slice-2.ensures.value)
