@@ -7,7 +7,7 @@ use Rattle.g_diagram.specs.declared.node.Tunnel.{Tunnel}
 use Rattle.g_diagram.specs.declared.node.Tunnel.TheVariants as line
 use Rattle.g_diagram.specs.declared.hierarchy.Vi.{Vi}
 use Rattle.g_diagram.specs.Lines.{Wire, Arm, Entry, Kind, Const, Apply, Shows, Shared, Obtain, Read, Write, Call, Loop, Case, Sequence, InPlace}
-use Rattle.g_diagram.specs.Operands.{Freedom, Line, Operand, Outside, border, case_border, border_lines, consumer, control_lines, entries_lines, give_line, kind_lines, plain_line}
+use Rattle.g_diagram.specs.Operands.{Freedom, Line, Operand, Outside, case_border, border_lines, consumer, control_lines, entries_lines, give_line, kind_lines, plain_line}
 use Rattle.g_diagram.specs.Ports.{Port, are_joined, is_before, port, ports_from, ports_in}
 use Rattle.g_diagram_ports.specs.Standing.{HasStandIn, IsAmong, IsSecond, Replaces, StandFor}
 use Rattle.g_diagram_ports.specs.Tunnels.{HaveOwnBranches, LookUp, all_first_tunnels, all_looked_up, all_outer_lines, case_of, inner_wire, is_arm, kept_ports, look_after, named_line, no_branch, nowhere, outer_border, outer_lines, outer_ports, tunnel_port}

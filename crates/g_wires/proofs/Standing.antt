@@ -1,5 +1,5 @@
 -- Ports that stand for all give the breaks and the wires of all.
-use Rattle.std.proofs.Common.{◌≡◌, ◌⊎◌, inl, inr, ⊎_elim, ℕ, Bool, true, false, not, ◌&&◌, ◌||◌, List, [], ◌∷◌, ◌++◌, map, filter, refl, sym, ap, ◌∙◌, subst}
+use Rattle.std.proofs.Common.{◌≡◌, inl, inr, ⊎_elim, ℕ, Bool, true, false, not, ◌&&◌, ◌||◌, List, [], ◌∷◌, ◌++◌, map, filter, refl, sym, ap, ◌∙◌, subst}
 use Rattle.std.specs.Prelude.{Option, Some, None, is_some}
 use Rattle.std.specs.List.{list_any}
 use Rattle.std.specs.Ordering.{is_eq}
@@ -56,13 +56,19 @@ any_map f test (x ∷ xs) = ap (λ b. test (f x) || b) (any_map f test xs)
 
 -- ---- breaks
 
-same_more : (xs ys zs ws : List Break) → SameBreaks xs ys → SameBreaks zs ws → SameBreaks (xs ++ zs) (ys ++ ws)
+pub same_more : (xs ys zs ws : List Break) → SameBreaks xs ys → SameBreaks zs ws → SameBreaks (xs ++ zs) (ys ++ ws)
 same_more xs ys zs ws h k b =
     list_any-append (λ c. is_eq (break_cmp b c)) xs zs ∙ ap (λ x. x || has_break zs b) (h b) ∙ ap (λ x. has_break ys b || x) (k b) ∙ sym (list_any-append (λ c. is_eq (break_cmp b c)) ys ws)
 
 -- a break is one at a port
 abbrev is_at : (vi rule : ℕ) → Break → Port → Bool
 is_at vi rule b p = is_eq (break_cmp b (break vi rule (spot p)))
+
+-- at the same place
+at_same : (vi rule : ℕ) (b : Break) (p q : Port) → q.line ≡ p.line → q.operand ≡ p.operand → is_at vi rule b p ≡ true → is_at vi rule b q ≡ true
+at_same vi rule b p q l k h =
+    ap (λ n. is_eq (break_cmp b (break vi rule (record { line = n; operand = q.operand })))) l
+    ∙ ap (λ n. is_eq (break_cmp b (break vi rule (record { line = p.line; operand = n })))) k ∙ h
 
 broken_at : (vi rule : ℕ) (broken : Port → Bool) (ps : List Port) (b : Break) → has_break (map (break vi rule) (map spot (filter broken ps))) b ≡ list_any (λ p. broken p && is_at vi rule b p) ps
 broken_at vi rule broken ps b =
@@ -129,6 +135,15 @@ module _ (ps qs : List Port) (stand : StandFor ps qs) where
             (and_both (is_before s.by q) (are_joined s.by q) (s.before (and_left (is_before p q) (are_joined p q) h)) s.joined);
       })
 
+  -- a source whose wire has a source before it
+  is_second : (first second : Port) → IsAmong first ps → first.is_source ≡ true → is_before first second ≡ true → are_joined first second ≡ true → is_repeated ps second ≡ true
+  is_second first second among source before h =
+      let earlier : Port → Bool = λ s. is_before s second && are_joined s second in
+      and_both (is_wired second) (list_any earlier (sources ps)) (wired_if_joined first second h)
+      (any_filter earlier (λ s. s.is_source) ps
+      ∙ is_had (λ s. s.is_source && earlier s) ps first among
+      (and_both first.is_source (earlier first) source (and_both (is_before first second) (are_joined first second) before h)))
+
   -- at the place of a source that is left out
   second_at : (vi : ℕ) (b : Break) (p : Port) → HasStandIn ps qs p → (is_repeated ps p && is_at vi 2 b p) ≡ true → Has (λ s. s.is_source && (is_repeated ps s && is_at vi 2 b s)) qs
   second_at vi b p r h =
@@ -139,20 +154,12 @@ module _ (ps qs : List Port) (stand : StandFor ps qs) where
       let both : earlier f.port ≡ true = and_right f.port.is_source (earlier f.port) f.passes in
       let s : IsSecond qs p = r.again f.port f.among (and_left f.port.is_source (earlier f.port) f.passes)
       (and_left (is_before f.port p) (are_joined f.port p) both) (and_right (is_before f.port p) (are_joined f.port p) both) in
-      let before : Port → Bool = λ t. is_before t s.second && are_joined t s.second in
-      let again : list_any before (sources ps) ≡ true =
-      any_filter before (λ t. t.is_source) ps
-      ∙ is_had (λ t. t.is_source && before t) ps s.first (stand.within s.first s.among)
-      (and_both s.first.is_source (before s.first) s.source (and_both (is_before s.first s.second) (are_joined s.first s.second) s.before s.joined)) in
-      let here : is_at vi 2 b s.second ≡ true =
-      ap (λ l. is_eq (break_cmp b (break vi 2 (record { line = l; operand = s.second.operand })))) s.line
-      ∙ ap (λ k. is_eq (break_cmp b (break vi 2 (record { line = p.line; operand = k })))) s.operand ∙ and_right (is_repeated ps p) (is_at vi 2 b p) h in
       record {
         port = s.second;
         among = s.also;
         passes = and_both s.second.is_source (is_repeated ps s.second && is_at vi 2 b s.second) s.later
-            (and_both (is_repeated ps s.second) (is_at vi 2 b s.second)
-            (and_both (is_wired s.second) (list_any before (sources ps)) (wired_if_joined s.first s.second s.joined) again) here);
+            (and_both (is_repeated ps s.second) (is_at vi 2 b s.second) (is_second s.first s.second (stand.within s.first s.among) s.source s.before s.joined)
+            (at_same vi 2 b p s.second s.line s.operand (and_right (is_repeated ps p) (is_at vi 2 b p) h)));
       }
 
   repeated_same : (vi : ℕ) → SameBreaks (map (break vi 2) (repeated qs)) (map (break vi 2) (repeated ps))
