@@ -33,6 +33,7 @@ abbrev IsDiagram : ℕ → List ℕ → Type 0
 IsDiagram d [] = ⊥
 IsDiagram d (b ∷ bs) = (b ≡ d) ⊎ IsDiagram d bs
 
+-- what a tunnel gives in these branches
 abbrev inner_ports : (bodies : List ℕ) → (l : ℕ) → Option Wire → List Port
 inner_ports bodies l None = []
 inner_ports bodies l (Some w) = map (λ d. tunnel_port l d w) bodies
@@ -72,6 +73,7 @@ module _ (e : Entry) (bodies : List ℕ) where
   abbrev ports_at : (Tunnel → List Operand) → (l : ℕ) → Tunnel → List Port
   ports_at form l t = ports_from (line_of form l t) 1 (form t)
 
+  -- the ports of a border line: those of the outer border, and what its tunnel gives
   split_line : (l : ℕ) (t : Tunnel) → ports_at case_border l t ≡ ports_at outer_border l t ++ inner_ports bodies l (inner_wire t)
   split_line l (line.Tunnel outer inner) = ap (λ ps. port (line_of case_border l (line.Tunnel outer inner)) 1 (consumer Outside outer) (Some e.line) e.diagram ∷ ps) (append-nil (map (λ d. tunnel_port l d inner) bodies))
   split_line l (line.Register initial inner next last) = sym (append-nil (ports_at outer_border l (line.Register initial inner next last)))
@@ -91,6 +93,7 @@ module _ (e : Entry) (bodies : List ℕ) where
   abbrev outer : (l : ℕ) → List Tunnel → List Port
   outer l ts = ports_in (border_lines e bodies [] outer_border l ts)
 
+  -- a port of border lines is one of the outer border, or what a tunnel gives
   border_either : (l : ℕ) (ts : List Tunnel) (p : Port) → IsAmong p (all l ts) → IsAmong p (outer l ts) ⊎ InBorder bodies l ts p
   border_either l [] p h = inl h
   border_either l (t ∷ ts) p h =
@@ -115,6 +118,7 @@ module _ (e : Entry) (bodies : List ℕ) where
       (λ later. among_right p (ports_at case_border l t) (all (l + 1) ts) (border_outer (l + 1) ts p later))
       (among_either p (ports_at outer_border l t) (outer (l + 1) ts) h)
 
+  -- what a tunnel gives stands in each of these branches
   border_inner : (first : ℕ) (ts : List Tunnel) (l d : ℕ) (w : Wire) → HasTunnel first ts l w → IsDiagram d bodies → IsAmong (tunnel_port l d w) (all first ts)
   border_inner first [] l d w h body = absurd h
   border_inner first (t ∷ ts) l d w h body =
@@ -163,6 +167,7 @@ module _ (free : Freedom) where
   abbrev bodies_of : List Arm → List ℕ
   bodies_of arms = map (λ a. a.body) arms
 
+  -- a port of a node is one of its outer lines, or what a tunnel gives
   kind_either : (e : Entry) (k : Kind) (p : Port) → IsAmong p (ports_in (kind_lines free e k)) → IsAmong p (ports_in (outer_lines free e k)) ⊎ InKind e k p
   kind_either e k p = by_case e (λ k. IsAmong p (ports_in (kind_lines free e k)) → IsAmong p (ports_in (outer_lines free e k)) ⊎ InKind e k p)
       (λ k same none h. let P : List Line → Type 0 = λ ls. IsAmong p (ports_in ls) in inl (subst P (sym same) h)) case k
@@ -203,6 +208,7 @@ module _ (free : Freedom) where
           (among_either p (ports_in outside) (ports_in gives) (subst P (ports_append outside gives) later)))))
           h
 
+  -- what a tunnel of a case gives stands in each branch
   case_inner : (e : Entry) (k : Kind) (first : ℕ) (ts : List Tunnel) (arms : List Arm) (l d : ℕ) (w : Wire) → IsCase e.line (case_of k) first ts arms → HasTunnel first ts l w → is_arm arms d ≡ true
       → IsAmong (tunnel_port l d w) (ports_in (kind_lines free e k))
   case_inner e k first ts arms l d w = by_case e (λ k. IsCase e.line (case_of k) first ts arms → HasTunnel first ts l w → is_arm arms d ≡ true → IsAmong (tunnel_port l d w) (ports_in (kind_lines free e k)))
@@ -275,6 +281,7 @@ module _ (free : Freedom) where
       (λ after. among_right p (ports_in now) (ports_in later) (entries_inner es first ts arms l d w after has arm)) h)
 
 -- places
+-- a tunnel on no later line stands before the same ports
 line_before : (l k : ℕ) (q : Port) → k ≤ l → (nat_lt l q.line || ((l == q.line) && nat_lt 2 q.operand)) ≡ true → (nat_lt k q.line || ((k == q.line) && nat_lt 2 q.operand)) ≡ true
 line_before l k q le h = grind (arith, le, h)
 
@@ -348,6 +355,7 @@ module _ (free : Freedom) (vi : Vi) (es : List Entry) (own_branches : HaveOwnBra
       (λ more. ⊎_elim (λ f. first_within p (in_first_from es p f)) (λ l. looked_within p (looked_from look own p l)) (among_either p firsts looked more))
       (among_either p own (firsts ++ looked) h)
 
+  -- a port of the VI is one of the outer lines, or what a tunnel gives
   ps_either : (p : Port) → IsAmong p ps → IsAmong p own ⊎ IsInner es p
   ps_either p h =
       let P : List Port → Type 0 = IsAmong p in
@@ -373,6 +381,7 @@ module _ (free : Freedom) (vi : Vi) (es : List Entry) (own_branches : HaveOwnBra
     meant_by : look d name ≡ Some named.line
     meant_by = tunnel_looked first ts arms d name named.line case arm named.found
 
+    -- the first tunnel of the name, in this branch
     abbrev stand : Port
     stand = tunnel_port named.line d (Some name)
 
@@ -385,6 +394,7 @@ module _ (free : Freedom) (vi : Vi) (es : List Entry) (own_branches : HaveOwnBra
       before = line_before l named.line q named.before;
     }
 
+    -- it is kept where a port of this branch has the name: an outer one, one in the first branch, or one that was looked up
     by_own : (q : Port) → IsAmong q own → d ≡ q.diagram → q.wire ≡ Some name → IsAmong stand qs
     by_own q among diagram wire =
         let P : ℕ → Type 0 = λ b. IsAmong (tunnel_port named.line b (Some name)) looked in
@@ -439,6 +449,7 @@ module _ (free : Freedom) (vi : Vi) (es : List Entry) (own_branches : HaveOwnBra
     inner_kept : named.line ≡ l → (s : Port) → IsAmong s own → s.diagram ≡ d → s.wire ≡ Some name → IsAmong inner qs
     inner_kept same s among diagram wire = let P : ℕ → Type 0 = λ k. IsAmong (tunnel_port k d (Some name)) qs in subst P same (by_own s among (sym diagram) wire)
 
+    -- where the tunnel is the first of its name, and another port has the name before
     by_port : named.line ≡ l → (s : Port) → IsAmong s own → s.is_source ≡ true → is_before s inner ≡ true → are_joined s inner ≡ true → IsSecond qs inner
     by_port same s among source before h =
         let j : AreJoined s inner = joined s inner h in
@@ -455,6 +466,7 @@ module _ (free : Freedom) (vi : Vi) (es : List Entry) (own_branches : HaveOwnBra
           operand = refl;
         }
 
+    -- no tunnel of the name stands before the first one
     by_tunnel : named.line ≡ l → (s : Port) → IsInner es s → is_before s inner ≡ true → are_joined s inner ≡ true → IsSecond qs inner
     by_tunnel same s r before h =
         let j : AreJoined s inner = joined s inner h in
@@ -492,6 +504,7 @@ module _ (free : Freedom) (vi : Vi) (es : List Entry) (own_branches : HaveOwnBra
   }
   inner_stands first ts arms case d arm l (Some name) has = stands first ts arms case d arm l name has
 
+  -- a port is kept, or others stand for it
   each : (p : Port) → IsAmong p ps → IsAmong p qs ⊎ HasStandIn ps qs p
   each p h = ⊎_elim (λ o. inl (own_kept p o))
       (λ (r : IsInner es p). let P : Port → Type 0 = HasStandIn ps qs in inr (subst P (sym r.is) (inner_stands r.first r.tunnels r.arms r.case r.diagram r.arm r.line r.wire r.has)))
