@@ -1,8 +1,7 @@
 -- Lines and their ports.
 use Rattle.std.proofs.Common.{◌≡◌, ℕ, ◌+◌, ◌<◌, List, [], ◌∷◌, ◌++◌, length, get_or, drop, refl, ap, sym, ◌∙◌, append_assoc}
 use Rattle.std.proofs.lemmas.List.{at_drop_more}
-use Rattle.g_diagram.specs.Lines.{Entry}
-use Rattle.g_diagram.specs.Operands.{Side, Outside, Inside, Before, Operand, Line, kind_lines, entries_lines, Freedom}
+use Rattle.g_diagram.specs.Operands.{Side, Outside, Inside, Before, Operand, Line}
 use Rattle.g_diagram.specs.Ports.{Port, ports_on, ports_from, ports_in}
 use Rattle.g_diagram_ports.specs.declared.push.Sides.{Sides}
 use Rattle.g_diagram_ports.specs.Sides.{line_by, ports_by}
@@ -26,12 +25,6 @@ ports_append (l ∷ xs) ys = ap (λ ps. ports_from l 1 l.operands ++ ps) (ports_
 
 pub one_line : (b : Sides) (l : ℕ) (ops : List Operand) (ls : List Line) → ports_in (line_by b l ops ∷ ls) ≡ ports_by b l 1 ops ++ ports_in ls
 one_line b l ops ls = ap (λ ps. ps ++ ports_in ls) (line_ports b l ops)
-
--- lines of all nodes
-pub entries_append : (free : Freedom) (xs ys : List Entry) → entries_lines free (xs ++ ys) ≡ entries_lines free xs ++ entries_lines free ys
-entries_append free [] ys = refl
-entries_append free (e ∷ xs) ys =
-    ap (λ ls. kind_lines free e e.kind ++ ls) (entries_append free xs ys) ∙ sym (append_assoc (kind_lines free e e.kind) (entries_lines free xs) (entries_lines free ys))
 
 -- one more element, as at a step of a loop
 pub one_more : {X : Type 0} (F G : List X → List Port) (g : List Port) (xs : List X) (i : ℕ) (x : X) (a b whole : List Port) → i < length xs → x ≡ get_or xs i x

@@ -9,6 +9,7 @@ use Rattle.g_diagram_ports.specs.declared.operand.Side.{Side}
 use Rattle.g_diagram_ports.specs.declared.operand.Side.TheVariants.{Outside, Inside, Before}
 use Rattle.g_diagram_ports.specs.declared.operand.Operand.{Operand}
 use Rattle.g_diagram_ports.specs.declared.port.Port.{Port}
+use Rattle.g_diagram_ports.specs.Tunnels.{outer_border}
 
 abbrev pub seen_side : Side → operands.Side
 seen_side Outside = operands.Outside
@@ -26,7 +27,7 @@ abbrev pub seen : Port → ports.Port
 seen p =
     record { line = p.line; operand = p.operand; diagram = p.diagram; node = p.node; is_source = p.is_source; is_free = p.is_free; wire = seen_wire p.wire }
 
--- the table of operands of a border line
+-- the table of operands of a border line, but for what a case's tunnel gives in branches
 abbrev pub form_of : (in_case : Bool) → Tunnel → List operands.Operand
-form_of true t = operands.case_border t
+form_of true t = outer_border t
 form_of false t = operands.border t

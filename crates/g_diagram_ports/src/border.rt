@@ -5,7 +5,7 @@ ghost use Rattle.std.specs.Option.{option_map};
 ghost use Rattle.g_diagram.specs.Operands as spec;
 ghost use Rattle.g_diagram_ports.specs.Seen.{seen_operand, form_of};
 
-use crate::operand::{Operand, Side, consumer, free_consumer, free_source, source};
+use crate::operand::{Operand, Side, consumer, free_consumer, source};
 use g_diagram::{Tunnel, Wire};
 use std::alloc::{AllocError, Global};
 
@@ -108,7 +108,7 @@ fn border<'a>(alloc: Global, line: &'a Tunnel) -> Result<Vec<Operand<'a>>, Alloc
     }
 }
 
-/// The operands of a border line. A case's tunnel may go unused in a branch.
+/// The operands of a border line, but for what a case's tunnel gives in branches.
 pub fn border_operands<'a>(
     alloc: Global,
     in_case: bool,
@@ -120,10 +120,7 @@ pub fn border_operands<'a>(
         return border(alloc, line);
     }
     match line {
-        Tunnel::Tunnel { outer, inner } => Ok(vec![in alloc;
-            consumer(Side::Outside, outer),
-            free_source(Side::Inside, inner),
-        ]?),
+        Tunnel::Tunnel { outer, .. } => Ok(vec![in alloc; consumer(Side::Outside, outer)]?),
         Tunnel::Register { .. }
         | Tunnel::Kept { .. }
         | Tunnel::Last { .. }

@@ -3,11 +3,13 @@
 #![tactic(auto)]
 
 mod border;
+mod branches;
 mod callee;
 mod operand;
 mod port;
 pub mod ports;
 mod push;
+mod tunnels;
 
 pub use callee::{Callees, callees};
 pub use operand::{Operand, Side};

@@ -40,18 +40,6 @@ pub fn source<'a>(side: Side, wire: &'a Wire) -> Operand<'a>
     }
 }
 
-/// An operand that gives a value to a wire, which may have no consumer.
-pub fn free_source<'a>(side: Side, wire: &'a Wire) -> Operand<'a>
-    ensures { seen_operand result ≡ spec.free_source (seen_side side) wire.now }
-{
-    Operand {
-        is_source: true,
-        side,
-        is_free: true,
-        wire: wire.as_ref(),
-    }
-}
-
 /// An operand that takes a value, which must be wired.
 pub fn consumer<'a>(side: Side, wire: &'a Wire) -> Operand<'a>
     ensures { seen_operand result ≡ spec.consumer (seen_side side) wire.now }

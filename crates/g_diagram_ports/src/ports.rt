@@ -7,12 +7,17 @@ ghost use Rattle.g_diagram.specs.Ports.{ports_in};
 ghost use Rattle.g_diagram_table.specs.Seen as table;
 ghost use Rattle.g_diagram_ports.specs.Seen.{seen, seen_operand};
 ghost use Rattle.g_diagram_ports.specs.Callees.{is_free_by, freedom_by};
+ghost use Rattle.g_diagram_ports.specs.Standing.{StandFor};
+ghost use Rattle.g_diagram_ports.specs.Tunnels as tunnels;
+ghost use Rattle.g_diagram_ports.specs.Tunnels.{all_outer_lines, outer_border, outer_lines};
 
 use crate::border::{give_operands, in_and_out, loop_header, push_outputs};
+use crate::branches::branches_of;
 use crate::callee::Callees;
 use crate::operand::{Operand, Side, consumer, free_consumer, source};
 use crate::port::Port;
 use crate::push::{Sides, next, push_border, push_line};
+use crate::tunnels::{push_all_first, push_all_looked_up};
 use g_diagram::{PanelItem, Tunnel, Vi, Wire};
 use g_diagram_table::{Arm, Entry, Kind, Part};
 use g_types::Name;
@@ -256,7 +261,7 @@ fn push_case<'a>(
     arms: &[Arm<'a>],
 ) -> Result<(), AllocError>
     ensures { OnOk result (map seen ports.new.items ≡ map seen ports.old.items ++ ports_in (
-        spec.border_lines (table.seen entry.now) (map (λ a. a.body) (map table.seen_arm arms.now)) [] spec.case_border (entry.now.line + 1) lines.now
+        spec.border_lines (table.seen entry.now) (map (λ a. a.body) (map table.seen_arm arms.now)) [] outer_border (entry.now.line + 1) lines.now
         ++ map (spec.give_line (table.seen entry.now)) (map table.seen_arm arms.now))) }
 {
     let bodies = bodies_of(alloc, arms)?;
@@ -282,7 +287,7 @@ fn push_entry<'a>(
     callees: &Callees<'_>,
     entry: &Entry<'a>,
 ) -> Result<(), AllocError>
-    ensures { OnOk result (map seen ports.new.items ≡ map seen ports.old.items ++ ports_in (spec.kind_lines (freedom_by callees.now) (table.seen entry.now) (table.seen_kind entry.now.kind))) }
+    ensures { OnOk result (map seen ports.new.items ≡ map seen ports.old.items ++ ports_in (outer_lines (freedom_by callees.now) (table.seen entry.now) (table.seen_kind entry.now.kind))) }
 {
     match &entry.kind {
         Kind::Const { out, .. } => push_source(ports, entry, *out),
@@ -353,7 +358,7 @@ fn push_entries<'a>(
     callees: &Callees<'_>,
     entries: &[Entry<'a>],
 ) -> Result<(), AllocError>
-    ensures { OnOk result (map seen ports.new.items ≡ map seen ports.old.items ++ ports_in (spec.entries_lines (freedom_by callees.now) (map table.seen entries.now))) }
+    ensures { OnOk result (map seen ports.new.items ≡ map seen ports.old.items ++ ports_in (all_outer_lines (freedom_by callees.now) (map table.seen entries.now))) }
 {
     for entry in entries {
         push_entry(alloc, ports, callees, entry)?;
@@ -402,19 +407,39 @@ fn push_panel<'a>(ports: &mut Vec<Port<'a>>, panel: &'a [PanelItem]) -> Result<(
 }
 
 /// The ports of a VI, line by line and operand by operand, with a port of an operand inside a structure
-/// in each diagram there. Only want of memory refuses it, and a line or an operand with a number of 2^32
-/// or more, which no place can name, is told so too.
+/// in each diagram there, but for what tunnels of cases give in branches.
 #[tactic(auto, using(crate::proofs::Lines::ports_append))]
+fn outer_ports<'a>(
+    alloc: Global,
+    callees: &Callees<'_>,
+    vi: &'a Vi,
+    entries: &[Entry<'a>],
+) -> Result<Vec<Port<'a>>, AllocError>
+    ensures { IfOk result (λ ports. map seen ports.items ≡ tunnels.outer_ports (freedom_by callees.now) vi.now (map table.seen entries.now)) }
+{
+    let mut ports = Vec::new(alloc);
+    push_panel(&mut ports, vi.panel.as_slice())?;
+    push_entries(alloc, &mut ports, callees, entries)?;
+    Ok(ports)
+}
+
+/// The ports of a VI, or fewer that say the same of its wires: what a tunnel of a case gives stands in the
+/// first branch, and of the others where the branch has its name, so that `n` tunnels and `m` branches don't
+/// make `n` times `m` ports. Only want of memory refuses it, and a line or an operand with a number of 2^32
+/// or more, which no place can name, is told so too.
 pub fn ports_of<'a>(
     alloc: Global,
     callees: &Callees<'_>,
     vi: &'a Vi,
     entries: &[Entry<'a>],
 ) -> Result<Vec<Port<'a>>, AllocError>
-    ensures { IfOk result (λ ports. map seen ports.items ≡ ports_in (spec.control_lines 1 vi.now.panel ++ spec.entries_lines (freedom_by callees.now) (map table.seen entries.now))) }
+    ensures { IfOk result (λ ports. StandFor (ports_in (spec.control_lines 1 vi.now.panel ++ spec.entries_lines (freedom_by callees.now) (map table.seen entries.now))) (map seen ports.items)) }
 {
-    let mut ports = Vec::new(alloc);
-    push_panel(&mut ports, vi.panel.as_slice())?;
-    push_entries(alloc, &mut ports, callees, entries)?;
+    let mut ports = outer_ports(alloc, callees, vi, entries)?;
+    let known = branches_of(alloc, entries)?;
+    let mut given = Vec::new(alloc);
+    push_all_first(&mut given, entries)?;
+    push_all_looked_up(&mut given, &known, ports.as_slice())?;
+    ports.extend_from_slice(given.as_slice())?;
     Ok(ports)
 }

@@ -123,15 +123,14 @@ fn port_places(
     Ok(places)
 }
 
-/// The control; the indicator; the case and its tunnel, in each branch too; in each branch the call, whose
-/// first control is required and whose second isn't there; the loop, inside; and its call.
-const PORTS: [(u32, u32, u32, bool, bool); 17] = [
+/// The control; the indicator; the case and its tunnel; in each branch the call, whose first control is
+/// required and whose second isn't there; the loop, inside; and its call. Then what the tunnel gives: in the
+/// first branch, and where the call of each branch takes it.
+const PORTS: [(u32, u32, u32, bool, bool); 18] = [
     (1, 1, 0, true, false),
     (2, 1, 0, false, true),
     (3, 1, 0, false, false),
     (4, 1, 0, false, false),
-    (4, 2, 5, true, true),
-    (4, 2, 7, true, true),
     (6, 1, 5, false, false),
     (6, 2, 5, false, false),
     (6, 3, 5, true, false),
@@ -143,6 +142,9 @@ const PORTS: [(u32, u32, u32, bool, bool); 17] = [
     (12, 1, 11, false, false),
     (12, 2, 11, false, false),
     (12, 3, 11, true, false),
+    (4, 2, 5, true, true),
+    (4, 2, 5, true, true),
+    (4, 2, 7, true, true),
 ];
 
 #[test]

@@ -1,6 +1,7 @@
 -- The breaks of rule 6 put together.
-use Rattle.std.proofs.Common.{◌≡◌, ◌⊎◌, inl, inr, ⊎_elim, ℕ, zero, suc, ◌+◌, ◌<◌, ◌≤◌, Bool, true, false, ◌||◌, List, [], ◌∷◌, ◌++◌, length, get_or, drop, append_assoc, refl, sym, ap, ◌∙◌, subst, arith}
-use Rattle.std.proofs.lemmas.List.{at_drop_more, at_drop_all}
+use Rattle.std.proofs.Common.{◌≡◌, ◌⊎◌, inl, inr, ⊎_elim, ℕ, zero, suc, ◌+◌, ◌<◌, ◌≤◌, Bool, true, false, ◌||◌, List, [], ◌∷◌, ◌++◌, length, get_or, drop, refl, sym, ap, ◌∙◌, subst, arith}
+use Rattle.std.proofs.lemmas.List.{append-nil, at_drop_more, at_drop_all}
+use Rattle.std.proofs.Math.Bool.{or_assoc}
 use Rattle.std.specs.Prelude.{Some, slice_get}
 use Rattle.std.specs.List.Sorted.{IsStrictlySortedBy}
 use Rattle.std.specs.Ordering.{is_eq}
@@ -19,7 +20,7 @@ use Rattle.g_wires.specs.Cycles.{Cycles}
 use Rattle.g_rules_lines.specs.UnknownVis.{absent_main}
 use Rattle.g_rules_lines.specs.Lists.{Known}
 use Rattle.g_wires.specs.Marks.{line_break, marked_from, coded_wire}
-use Rattle.g_wires.specs.Checked.{TellsLines, IsCycle, AddsCycles, CyclesBelow}
+use Rattle.g_wires.specs.Checked.{AddsBreaks, AddsCycles, CyclesBelow, IsCycle, SameBreaks, TellsLines}
 use Rattle.g_wires.proofs.Found.{or_left, or_right, or_cases}
 use Rattle.g_wires.proofs.Turning.{leads_same}
 
@@ -110,13 +111,13 @@ no_cycles ports vis bs e = record {
   each = λ b c lt. absurd (omega arith);
 }
 
-pub lists_each : (ports : Vi → List Port) (known : Known) (vis : List Vi) (main : List ℕ) (plain cycles all bs : List Break) → plain ≡ plain_breaks ports known vis ++ absent_main known.arities (length vis) main → CyclesBelow ports vis (length vis) cycles
+pub lists_each : (ports : Vi → List Port) (known : Known) (vis : List Vi) (main : List ℕ) (plain cycles all bs : List Break) → SameBreaks plain (plain_breaks ports known vis ++ absent_main known.arities (length vis) main) → CyclesBelow ports vis (length vis) cycles
     → all ≡ plain ++ cycles → IsStrictlySortedBy break_cmp bs → ((b : Break) → has_break bs b ≡ has_break all b) → ListsEach (BreaksBy ports known vis main) bs
 lists_each ports known vis main plain cycles all bs en ec ea order same = record {
   ascending = order;
-  only = λ b h. ⊎_elim (λ x. inl (sym (ap (λ xs. has_break xs b) en) ∙ x)) (λ x. inr (ec.only b x)) (or_cases (has_break plain b) (has_break cycles b) (sym (split b) ∙ h));
+  only = λ b h. ⊎_elim (λ x. inl (sym (en b) ∙ x)) (λ x. inr (ec.only b x)) (or_cases (has_break plain b) (has_break cycles b) (sym (split b) ∙ h));
   each = λ b p. split b ∙ ⊎_elim
-      (λ x. or_left (has_break plain b) (has_break cycles b) (ap (λ xs. has_break xs b) en ∙ x))
+      (λ x. or_left (has_break plain b) (has_break cycles b) (en b ∙ x))
       (λ (c : Cycles ports vis b). or_right (has_break plain b) (has_break cycles b) (ec.each b c (slice_get_within vis b.place.vi c.vi c.stands)))
       p;
 }
@@ -126,17 +127,17 @@ lists_each ports known vis main plain cycles all bs en ec ea order same = record
 
 -- one more VI, as at a step of a loop
 pub each_more : (f : ℕ → Vi → List Break) (vis : List Vi) (i : ℕ) (vi : Vi) (number next : ℕ) (old new whole : List Break) → i < length vis → vi ≡ get_or vis i vi → next ≡ number + 1
-    → new ≡ old ++ f number vi → old ++ each_from f number (drop i vis) ≡ whole → new ++ each_from f next (drop (i + 1) vis) ≡ whole
-each_more f vis i vi number next old new whole lt is en e h =
-    ap (λ bs. bs ++ each_from f next (drop (i + 1) vis)) e ∙ append_assoc old (f number vi) (each_from f next (drop (i + 1) vis))
-    ∙ ap (λ n. old ++ (f number vi ++ each_from f n (drop (i + 1) vis))) en
-    ∙ ap (λ v. old ++ (f number v ++ each_from f (number + 1) (drop (i + 1) vis))) is
-    ∙ ap (λ bs. old ++ bs) (sym (at_drop_more (each_from f number) vis i vi lt)) ∙ h
-
-nil_right : (bs : List Break) → bs ++ [] ≡ bs
-nil_right [] = refl
-nil_right (b ∷ bs) = ap (λ xs. b ∷ xs) (nil_right bs)
+    → AddsBreaks (f number vi) old new → SameBreaks (old ++ each_from f number (drop i vis)) whole → SameBreaks (new ++ each_from f next (drop (i + 1) vis)) whole
+each_more f vis i vi number next old new whole lt is en adds h b =
+    let rest : List Break = each_from f next (drop (i + 1) vis) in
+    let test : Break → Bool = λ c. is_eq (break_cmp b c) in
+    let all : f number vi ++ rest ≡ each_from f number (drop i vis) =
+    ap (λ n. f number vi ++ each_from f n (drop (i + 1) vis)) en ∙ ap (λ v. f number v ++ each_from f (number + 1) (drop (i + 1) vis)) is
+    ∙ sym (at_drop_more (each_from f number) vis i vi lt) in
+    list_any-append test new rest ∙ ap (λ x. x || has_break rest b) (adds b) ∙ or_assoc (has_break old b) (has_break (f number vi) b) (has_break rest b)
+    ∙ ap (λ x. has_break old b || x) (sym (list_any-append test (f number vi) rest)) ∙ sym (list_any-append test old (f number vi ++ rest))
+    ∙ ap (λ bs. has_break (old ++ bs) b) all ∙ h b
 
 -- after the last VI
-pub each_all : (f : ℕ → Vi → List Break) (vis : List Vi) (i number : ℕ) (plain whole : List Break) → length vis ≤ i → plain ++ each_from f number (drop i vis) ≡ whole → plain ≡ whole
-each_all f vis i number plain whole le h = sym (nil_right plain) ∙ ap (λ bs. plain ++ bs) (sym (at_drop_all (each_from f number) vis i le)) ∙ h
+pub each_all : (f : ℕ → Vi → List Break) (vis : List Vi) (i number : ℕ) (plain whole : List Break) → length vis ≤ i → SameBreaks (plain ++ each_from f number (drop i vis)) whole → SameBreaks plain whole
+each_all f vis i number plain whole le h b = ap (λ bs. has_break bs b) (sym (append-nil plain) ∙ ap (λ bs. plain ++ bs) (sym (at_drop_all (each_from f number) vis i le))) ∙ h b

@@ -23,7 +23,7 @@ use Rattle.g_wires.specs.Coding.{Table, number_at, number_of, wire_at, code_by, 
 use Rattle.g_wires.specs.Marks.{is_number, gives, takes, gives_before, is_ungiven, is_untaken, is_given_before, has_no_source, is_later_source, has_no_consumer, has_no_wire, coded_break, coded_breaks, coded_named, same_number_of, coded_feeds, coded_wire}
 use Rattle.g_wires.proofs.Found.{any_filter, filter_same, and_left, and_right, and_both, same_number}
 
-same_bool : (a b : Bool) → (a ≡ true → b ≡ true) → (b ≡ true → a ≡ true) → a ≡ b
+pub same_bool : (a b : Bool) → (a ≡ true → b ≡ true) → (b ≡ true → a ≡ true) → a ≡ b
 same_bool true b f g = sym (f refl)
 same_bool false true f g = g refl
 same_bool false false f g = refl

@@ -1,5 +1,5 @@
 -- What the checks of one VI say, which the list of all is put together from.
-use Rattle.std.specs.Prelude.{ℕ, ◌≡◌, ◌⊎◌, ◌<◌, ◌^◌, Bool, true, List, ◌++◌, length, All}
+use Rattle.std.specs.Prelude.{ℕ, ◌≡◌, ◌⊎◌, ◌<◌, ◌^◌, Bool, true, ◌||◌, List, ◌++◌, length, All}
 use Rattle.g_diagram.specs.declared.place.Break.{Break}
 use Rattle.g_diagram.specs.declared.hierarchy.Vi.{Vi}
 use Rattle.g_diagram.specs.Lines.{entries_of}
@@ -17,11 +17,19 @@ use Rattle.g_wires.specs.Marks.{WireBelow, is_marked, coded_named, coded_wire}
 abbrev pub ports_with : Freedom → Vi → List Port
 ports_with free vi = ports_in (control_lines 1 vi.panel ++ entries_lines free (entries_of vi))
 
+-- lists with the same breaks, whatever their order
+abbrev pub SameBreaks : (bs cs : List Break) → Type 0
+SameBreaks bs cs = (b : Break) → has_break bs b ≡ has_break cs b
+
+-- breaks added to others
+abbrev pub AddsBreaks : (added old new : List Break) → Type 0
+AddsBreaks added old new = (b : Break) → has_break new b ≡ (has_break old b || has_break added b)
+
 -- ports by numbers that say what these ports say
 pub record IsCoding (ps : List Port) (cs : List Coded) (count : ℕ) : Type 0 where
   pub small : count < 2 ^ 63
   pub wires : All (WireBelow count) cs
-  pub named : (vi : ℕ) → coded_named vi cs ≡ named_in ps vi
+  pub named : (vi : ℕ) → SameBreaks (coded_named vi cs) (named_in ps vi)
   pub steps : (a b : ℕ) → coded_wire cs a b ≡ has_wire ps a b
 
 -- of each line, whether it leads to itself

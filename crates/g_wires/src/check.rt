@@ -1,11 +1,11 @@
 //! The breaks of each VI.
 
-ghost use Rattle.std.specs.Prelude.{◌≡◌, ◌<◌, ◌++◌, length, map, IfOk, OnOk};
+ghost use Rattle.std.specs.Prelude.{◌≡◌, ◌<◌, length, map, IfOk, OnOk};
 ghost use Rattle.g_diagram_ports.specs.Callees.{freedom_by};
 ghost use Rattle.g_diagram.specs.Lines.{entries_of};
 ghost use Rattle.g_diagram_table.specs.Seen as table;
 ghost use Rattle.g_wires.specs.Breaks.{IsWiring, plain_in, each_from};
-ghost use Rattle.g_wires.specs.Checked.{ports_with, IsCoding, AddsCycles, CyclesBelow};
+ghost use Rattle.g_wires.specs.Checked.{ports_with, AddsBreaks, AddsCycles, CyclesBelow, IsCoding, SameBreaks};
 ghost use Rattle.g_rules_lines.specs.Names.{known_by};
 
 use crate::coded::{Coded, code_all, wire_numbers};
@@ -34,7 +34,7 @@ struct CodedPorts {
     count: usize,
 }
 
-/// The ports of a VI with these nodes, with its wires by numbers.
+/// The ports of a VI with these nodes, or those that stand for them, with its wires by numbers.
 fn coded_ports(
     alloc: Global,
     callees: &Callees<'_>,
@@ -76,7 +76,7 @@ fn check_vi(
     vi: &Vi,
     found: &mut Findings,
 ) -> Result<(), AllocError>
-    ensures plain { OnOk result (found.new.plain.items ≡ found.old.plain.items ++ plain_in (ports_with (freedom_by known.now.callees)) (known_by known.now.arities known.now.queues) number vi.now) }
+    ensures plain { OnOk result (AddsBreaks (plain_in (ports_with (freedom_by known.now.callees)) (known_by known.now.arities known.now.queues) number vi.now) found.old.plain.items found.new.plain.items) }
     ensures cycles { OnOk result (AddsCycles number (ports_with (freedom_by known.now.callees) vi.now) found.old.cycles.items found.new.cycles.items) }
 {
     let entries = table(alloc, vi)?;
@@ -104,7 +104,7 @@ fn check_vi(
 
 /// The breaks of all VIs.
 fn check_vis(alloc: Global, known: &Known<'_>, vis: &[Vi]) -> Result<Findings, AllocError>
-    ensures plain { IfOk result (λ found. found.plain.items ≡ each_from (plain_in (ports_with (freedom_by known.now.callees)) (known_by known.now.arities known.now.queues)) 0 vis.now) }
+    ensures plain { IfOk result (λ found. SameBreaks found.plain.items (each_from (plain_in (ports_with (freedom_by known.now.callees)) (known_by known.now.arities known.now.queues)) 0 vis.now)) }
     ensures cycles { IfOk result (λ found. CyclesBelow (ports_with (freedom_by known.now.callees)) vis.now (length vis.now) found.cycles.items) }
 {
     let mut found = Findings {

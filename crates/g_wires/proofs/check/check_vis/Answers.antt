@@ -4,6 +4,7 @@ use Rattle.g_diagram.specs.declared.hierarchy.Vi.{Vi}
 use Rattle.g_diagram.specs.declared.place.Break.{Break}
 use Rattle.g_diagram.specs.Ports.{Port}
 use Rattle.g_diagram_ports.specs.Callees.{freedom_by}
+use Rattle.g_rules_breaks.specs.Breaks.{has_break}
 use Rattle.g_wires.specs.Breaks.{plain_in, each_from}
 use Rattle.g_rules_lines.specs.Names.{known_by}
 use Rattle.g_wires.specs.Checked.{ports_with, AddsCycles, CyclesBelow}
@@ -15,7 +16,7 @@ loop-vi-init c =
     let f : ℕ → Vi → List Break = plain_in (ports_with (freedom_by c.args.known.now.callees)) (known_by c.args.known.now.arities c.args.known.now.queues) in
     record {
       number = refl;
-      plain = ap (λ (bs : List Break). bs ++ each_from f 0 c.args.vis.now) c.new.ensures.items;
+      plain = λ b. ap (λ (bs : List Break). has_break (bs ++ each_from f 0 c.args.vis.now) b) c.new.ensures.items;
       cycles = no_cycles (ports_with (freedom_by c.args.known.now.callees)) c.args.vis.now c.new-2.result.items c.new-2.ensures.items;
     }
 
