@@ -11,7 +11,8 @@ ghost use Rattle.g_rules_types.specs.Panels.{callees_in, objects_in};
 ghost use Rattle.g_infer.specs.Steps.{seen_step};
 
 use crate::giving::{
-    Given, has_rows, push, push_arms, push_controls, push_inside, push_node, push_outside, push_result, whole,
+    Given, has_rows, push, push_arms, push_controls, push_inside, push_node, push_outside,
+    push_result, whole,
 };
 use crate::steps::Step;
 use g_diagram::Tunnel;

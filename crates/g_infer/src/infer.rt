@@ -16,9 +16,7 @@ ghost use Rattle.g_infer.specs.Inferred.{Inferred, told_branch, told_case, told_
 ghost use Rattle.g_rules_types.specs.Known.{types_of};
 ghost use Rattle.g_rules_types.specs.Panels.{callees_in, objects_in};
 
-use crate::typed::{
-    BranchCases, CaseTypes, InferRefused, NamedType, SourceType, Typed, ViTypes,
-};
+use crate::typed::{BranchCases, CaseTypes, InferRefused, NamedType, SourceType, Typed, ViTypes};
 use crate::walk::vi_types;
 use g_diagram::{Break, Hierarchy, PanelItem, Vi};
 use g_diagram_table::Entry;
@@ -61,10 +59,7 @@ fn listed_case<'a>(alloc: Global, scope: Scope<'a>) -> Result<CaseTypes, AllocEr
     })
 }
 
-fn listed_cases<'a>(
-    alloc: Global,
-    scopes: Vec<Scope<'a>>,
-) -> Result<List<CaseTypes>, AllocError>
+fn listed_cases<'a>(alloc: Global, scopes: Vec<Scope<'a>>) -> Result<List<CaseTypes>, AllocError>
     ensures { IfOk result (λ cases. cases ≡ map told_case scopes.entry.items) }
 {
     let mut cases = Vec::new(alloc);
