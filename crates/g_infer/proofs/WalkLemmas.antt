@@ -1,6 +1,6 @@
 -- Types that are decided step by step, in an order in which each step reads only what steps before it give.
 use Rattle.std.proofs.Common.{◌≡◌, ◌⊎◌, inl, inr, ⊎_elim, ℕ, zero, suc, ◌+◌, ◌<◌, ◌≤◌, ◌==◌, Bool, true, false, ◌&&◌, cond, List, [], ◌∷◌, ◌++◌, length, take, map, get_or, refl, ap, sym, ◌∙◌, subst, arith}
-use Rattle.std.specs.Prelude.{Option, Some, None, IfSome, IsNone, is_some, slice_get, Vec}
+use Rattle.std.specs.Prelude.{if◌then◌else◌, Option, Some, None, IfSome, IsNone, is_some, slice_get, Vec}
 use Rattle.std.specs.declared.alloc.Global.{Global}
 use Rattle.std.specs.Str.{bytes_eq}
 use Rattle.std.specs.List.{AllByRecursion}
@@ -437,9 +437,9 @@ pub adds_fresh : (gs : List Given) (M N : Types) → IsFresh M gs → IsAfter M 
 adds_fresh gs M N fresh after = adds_after gs M N fresh.apart fresh.unknown after
 
 -- an inserted type
-pub inserted : (b c : Bool) (t : Ty) (o : Option Ty) → b ≡ c → cond b (Some t) o ≡ put c (Some t) o
-inserted b true t o e = ap (λ x. cond x (Some t) o) e
-inserted b false t o e = ap (λ x. cond x (Some t) o) e
+pub inserted : (b : Bool) (t : Ty) (o : Option Ty) → (if b then Some t else o) ≡ put b (Some t) o
+inserted true t o = refl
+inserted false t o = refl
 
 -- what is given without a type
 pub keeps_nothing : (b : Bool) (o : Option Ty) → o ≡ put b None o

@@ -34,7 +34,10 @@ fn keep<'m>(types: &mut WireTypes<'m>, given: Given<'m>) -> Result<(), AllocErro
     let Given { diagram, name, ty } = given;
     match ty {
         None => Ok(()),
-        Some(ty) => types.insert(diagram, name, ty),
+        Some(ty) => {
+            types.insert(diagram, name, ty)?;
+            Ok(())
+        }
     }
 }
 
@@ -101,7 +104,8 @@ fn take_branches<'m>(
     ensures adds { OnOk result (Adds (types_of types.old) (types_of types.new) (arms_inside (types_of types.old) outer lines.now (map seen_arm arms.now))) }
 {
     let scope = scope_of(alloc, types, outer, lines)?;
-    types.insert_in_branches(alloc, scope, arms)
+    types.insert_in_branches(alloc, scope, arms)?;
+    Ok(())
 }
 
 /// Adds what a step gives, name by name.

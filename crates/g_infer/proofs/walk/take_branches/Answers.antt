@@ -4,5 +4,7 @@ use Rattle.g_rules_types.specs.Known.{types_of}
 use Rattle.g_infer.proofs.Branching.{branches_added}
 use Rattle.g_infer.proofs.walk.take_branches.Goals as goal
 
-pub returns : goal.returns
-returns c = c
+pub returns-clause-adds : goal.returns-clause-adds
+returns-clause-adds c =
+    branches_added (types_of c.args.types.now) (types_of c.insert_in_branches.new.self) c.args.outer c.args.lines.now (map seen_arm c.args.arms.now) c.in_ok-scope.scope c.in_ok-scope.ensures
+    c.in_ok-insert_in_branches.ensures.types c.requires.fresh
