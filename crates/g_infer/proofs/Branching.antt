@@ -17,15 +17,16 @@ use Rattle.g_graph.proofs.Search.{or_cases, same_number}
 use Rattle.g_wires.proofs.Found.{or_left, or_right}
 use Rattle.g_typing.specs.Types.{Types}
 use Rattle.g_typing.specs.Typing.{Given, IsGivenTo, given, line_inside, lines_inside, arms_inside}
-use Rattle.g_typing.proofs.Roles.{nothing}
+use Rattle.g_typing.proofs.Roles.{nothing, lines_give_inside}
 use Rattle.g_typing.proofs.Unique.{HaveGiven}
 use Rattle.g_typing.proofs.Walked.{AreApart, Adds}
 use Rattle.g_rules_types.specs.Known.{Scope, is_branch}
 use Rattle.g_rules_types.specs.Panels.{found}
 use Rattle.g_infer.specs.declared.feeds.Reader.{Reader}
 use Rattle.g_infer.specs.declared.feeds.Readers.{Readers}
-use Rattle.g_infer.specs.Feeding.{AreSame, ByName, branch_leads, gives_name, is_reader, is_reader_in, leads_to, readers_in, reads_some}
+use Rattle.g_infer.specs.Feeding.{AreSame, ByName, branch_leads, gives_name, is_reader, leads_to, readers_in, reads_some}
 use Rattle.g_infer.specs.Walking.{IsFresh, IsScope, known_after, named_after, is_to, put}
+use Rattle.g_infer.proofs.FormLemmas.{have_both}
 use Rattle.g_infer.proofs.WalkLemmas.{have_after, untouched, same_itself, given_in_left, given_in_right, left_apart, right_apart}
 
 -- ---- the same in another diagram
@@ -57,11 +58,6 @@ lines_moved M d b x before (t ∷ ts) =
     ∙ ap (λ (gs : List Given). map (moved b) (line_inside M d x before t) ++ gs) (lines_moved M d b x before ts)
     ∙ sym (map-append (moved b) (line_inside M d x before t) (lines_inside M d x before ts))
 
-moved_at : (b : ℕ) (gs : List Given) (e : ℕ) (n : List ℕ) → IsGivenTo (map (moved b) gs) e n → b ≡ e
-moved_at b [] e n i = absurd i
-moved_at b (g ∷ gs) e n (inl i) = i.0
-moved_at b (g ∷ gs) e n (inr i) = moved_at b gs e n i
-
 -- ---- its types, by name
 
 moved_after : (b : ℕ) (gs : List Given) (n : List ℕ) (o : Option Ty) → known_after (map (moved b) gs) b n o ≡ named_after gs n o
@@ -72,10 +68,6 @@ moved_after b (g ∷ gs) n o =
 have_same : (M N : Types) (gs : List Given) → HaveGiven M gs → ((e : ℕ) (n : List ℕ) → IsGivenTo gs e n → N e n ≡ M e n) → HaveGiven N gs
 have_same M N [] h same = tt
 have_same M N (g ∷ gs) h same = (same g.diagram g.name (inl (refl, refl)) ∙ h.0, have_same M N gs h.1 (λ e n i. same e n (inr i)))
-
-have_both : (M : Types) (xs ys : List Given) → HaveGiven M xs → HaveGiven M ys → HaveGiven M (xs ++ ys)
-have_both M [] ys h g = g
-have_both M (x ∷ xs) ys h g = (h.0, have_both M xs ys h.1 g)
 
 or_none : (o : Option Ty) → option_or o None ≡ o
 or_none None = refl
@@ -103,7 +95,7 @@ module _ (M N : Types) (d : ℕ) (ts : List Tunnel) (arms : List Arm) (scope : S
       have_same (λ e n. known_after (lines_inside M d b None ts) e n None) N (lines_inside M d b None ts)
       (have_after (lines_inside M d b None ts) nothing (λ e n. known_after (lines_inside M d b None ts) e n None) apart (λ e n i. refl) (λ e n. refl))
       (λ e n i.
-      let at : b ≡ e = moved_at b (lines_inside M d 0 None ts) e n (let P : List Given → Type 0 = λ gs. IsGivenTo gs e n in subst P (lines_moved M d b 0 None ts) i) in
+      let at : b ≡ e = lines_give_inside M d b None ts e n i in
       let P : ℕ → Type 0 = λ y. N y n ≡ known_after (lines_inside M d b None ts) y n None in
       let Q : ℕ → Type 0 = λ y. IsGivenTo (lines_inside M d b None ts) y n in
       subst P at
@@ -176,7 +168,7 @@ module _ (m : Readers) (same : AreSame m) (p : List ℕ → Bool) (d : ℕ) (ts 
       let gs : List Given = lines_inside nothing d 0 None ts in
       ap (λ q. reads_some q (readers_in m.by_diagram e) b) (fun_ext named)
       ∙ each_way gs (readers_in m.by_diagram e) b
-      ∙ ap (λ q. list_any q gs) (fun_ext (λ g. same e g.name b))
+      ∙ ap (λ (q : Given → Bool). list_any q gs) (fun_ext (λ (g : Given). same e g.name b))
       ∙ moved_leads m.by_name e gs b
       ∙ ap (λ xs. leads_to m.by_name xs b) (sym (lines_moved nothing d e 0 None ts))
 

@@ -10,14 +10,14 @@ use Rattle.g_diagram.specs.Lines.{Arm, Part, Entry, Kind, Const, Apply, Shows, S
 use Rattle.g_typing.specs.Types.{Types}
 use Rattle.g_typing.specs.Typing.{Given, Callees, Objects, HasGiven, AreTypes, IsGivenTo, panel_type, next_result, controls_given, lines_inside, arms_inside, result_given, results_given, kind_given, entries_given, all_given}
 use Rattle.g_typing.proofs.Local.{all_inside_reads, lines_inside-local}
-use Rattle.g_typing.proofs.Names.{SameNames, IsNamed, AreNamed, named_in, vi_named}
+use Rattle.g_typing.proofs.Names.{SameNames, IsNamed, named_in, vi_named}
 use Rattle.g_typing.proofs.Only.{IsIn, all_gives, kind_gives, entries_steps, vi_steps, vi-local, local_in}
-use Rattle.g_typing.proofs.Ready.{Feeds, Ready, ready}
+use Rattle.g_typing.proofs.Ready.{Ready, ready}
 use Rattle.g_typing.proofs.Roles.{nothing, IsRead, given_append}
 use Rattle.g_typing.proofs.Steps.{ok_at, inside, arms_steps, results_steps, parts_steps, steps_append, kind_steps}
 use Rattle.g_typing.proofs.Unique.{Step, IsLocal, HaveGiven, HoldsAll}
 use Rattle.g_infer.specs.Gives.{step_of}
-use Rattle.g_infer.specs.Steps.{Form, Controls, Branches, Opening, FrameClosing, Result, results_forms, parts_forms, node_forms, entries_forms, vi_forms}
+use Rattle.g_infer.specs.Steps.{Branches, Opening, FrameClosing, Result, results_forms, parts_forms, node_forms, entries_forms, vi_forms}
 
 -- ---- steps among others
 
@@ -162,6 +162,20 @@ arms_source all d ts (arm ∷ arms) z n among h = ⊎_elim
     (λ r. arms_source all d ts arms z n (λ t i. among t (inr i)) r)
     (given_append (lines_inside nothing d arm.body None ts) (arms_inside nothing d ts arms) z n h)
 
+-- ---- types that have what is given
+
+pub have_both : (M : Types) (xs ys : List Given) → HaveGiven M xs → HaveGiven M ys → HaveGiven M (xs ++ ys)
+have_both M [] ys h g = g
+have_both M (x ∷ xs) ys h g = (h.0, have_both M xs ys h.1 g)
+
+have_all : (M : Types) (ss : List Step) → HoldsAll M ss → HaveGiven M (all_gives M ss)
+have_all M [] h = tt
+have_all M (s ∷ ss) h = have_both M (s.gives M) (all_gives M ss) h.0 (have_all M ss h.1)
+
+by_recursion : (M : Types) (gs : List Given) → HaveGiven M gs → AllByRecursion (HasGiven M) gs
+by_recursion M [] h = tt
+by_recursion M (g ∷ gs) h = (h.0, by_recursion M gs h.1)
+
 -- ---- the steps of a VI
 
 abbrev pub made_steps : Callees → List PanelItem → List Entry → List Step
@@ -221,18 +235,6 @@ module _ (called : Callees) (panel : List PanelItem) (es : List Entry) where
       same_ready o.step (every o.step o.is) v o.reads)
 
   -- types that hold of all steps are a typing
-
-  have_both : (M : Types) (xs ys : List Given) → HaveGiven M xs → HaveGiven M ys → HaveGiven M (xs ++ ys)
-  have_both M [] ys h g = g
-  have_both M (x ∷ xs) ys h g = (h.0, have_both M xs ys h.1 g)
-
-  have_all : (M : Types) (ss : List Step) → HoldsAll M ss → HaveGiven M (all_gives M ss)
-  have_all M [] h = tt
-  have_all M (s ∷ ss) h = have_both M (s.gives M) (all_gives M ss) h.0 (have_all M ss h.1)
-
-  by_recursion : (M : Types) (gs : List Given) → HaveGiven M gs → AllByRecursion (HasGiven M) gs
-  by_recursion M [] h = tt
-  by_recursion M (g ∷ gs) h = (h.0, by_recursion M gs h.1)
 
   pub made_hold : (M : Types) → HoldsAll M made → AreTypes called panel es M
   made_hold M h =

@@ -209,7 +209,8 @@ fn branch_names<'m>(
     let types: WireTypes<'m> = WireTypes::new(alloc);
     let mut givens = Vec::new(alloc);
     push_inside(alloc, &mut givens, &types, outer, 0, None, lines)?;
-    names_of(alloc, givens.as_slice())
+    let names = names_of(alloc, givens.as_slice())?;
+    Ok(names)
 }
 
 /// Appends a step if it reads one of these names.

@@ -87,7 +87,8 @@ fn scope_of<'m>(
 {
     let mut givens = Vec::new(alloc);
     push_inside(alloc, &mut givens, types, outer, 0, None, lines)?;
-    keep_names(alloc, givens)
+    let scope = keep_names(alloc, givens)?;
+    Ok(scope)
 }
 
 /// Adds what the tunnels of a case give, once for all its branches.
@@ -123,7 +124,8 @@ fn take_by_name<'p, 'm>(
 {
     let mut givens = Vec::new(alloc);
     push_gives(alloc, &mut givens, panels, objects, types, step)?;
-    keep_all(types, givens)
+    keep_all(types, givens)?;
+    Ok(())
 }
 
 /// Adds what a step gives by the types so far.

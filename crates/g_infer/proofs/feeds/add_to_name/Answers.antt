@@ -3,7 +3,7 @@ use Rattle.std.specs.Prelude.{Option, Some, Vec}
 use Rattle.std.specs.declared.alloc.Global.{Global}
 use Rattle.g_graph.specs.Graph.{has, row_of}
 use Rattle.g_graph.proofs.Search.{has_push}
-use Rattle.g_wires.proofs.NumberLemmas.{is_key}
+use Rattle.g_rules_types.proofs.Kept.{is_key}
 use Rattle.g_infer.specs.Feeding.{ByName}
 use Rattle.g_infer.proofs.FeedLemmas.{kept_for, put_back, reader_added}
 use Rattle.g_infer.proofs.feeds.add_to_name.Goals as goal

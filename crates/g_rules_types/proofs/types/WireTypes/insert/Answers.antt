@@ -1,6 +1,6 @@
 use Rattle.g_rules_types.specs.Known.{cases_of, first_type, own_type}
 use Rattle.g_rules_types.proofs.Kept.{is_key, key_is, own_kept}
-use Rattle.std.specs.Prelude.{ℕ, ◌==◌, ◌&&◌}
+use Rattle.std.specs.Prelude.{◌==◌, ◌&&◌}
 use Rattle.std.specs.Str.{bytes_eq}
 use Rattle.g_rules_types.specs.declared.types.WireTypes.{WireTypes}
 use Rattle.g_rules_types.proofs.types.WireTypes.insert.Goals as goal

@@ -1,4 +1,4 @@
-use Rattle.std.proofs.Common.{◌≡◌, ℕ, List, length, map, arith}
+use Rattle.std.proofs.Common.{◌≡◌, length, map, arith}
 use Rattle.g_diagram_table.specs.Seen.{seen_arm}
 use Rattle.g_rules_types.specs.declared.types.WireTypes.{WireTypes}
 use Rattle.g_rules_types.specs.Known.{cases_of, own_type}
