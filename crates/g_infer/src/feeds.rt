@@ -72,7 +72,7 @@ fn add_to_name<'a>(
 
 /// The readers of a diagram that may have none yet.
 fn readers_or_none<'a>(alloc: Global, readers: Option<Vec<Reader<'a>>>) -> Vec<Reader<'a>>
-    ensures { result.items ≡ readers_of readers }
+    ensures { result.items ≡ readers_of readers.entry }
 {
     match readers {
         None => Vec::new(alloc),
@@ -217,9 +217,9 @@ fn branch_names<'m>(
 fn push_reader<'m>(
     row: &mut Vec<usize>,
     names: &BTreeSet<&'m [u8]>,
-    reader: Reader<'m>,
+    reader: &Reader<'m>,
 ) -> Result<(), AllocError>
-    ensures { OnOk result ((b : ℕ) → has row.new.items b ≡ (has row.old.items b || (has_name names.now reader.name.now && (reader.step == b)))) }
+    ensures { OnOk result ((b : ℕ) → has row.new.items b ≡ (has row.old.items b || (has_name names.now reader.now.name.now && (reader.now.step == b)))) }
 {
     if !names.contains(reader.name) {
         return Ok(());
@@ -237,7 +237,7 @@ fn push_some<'m>(
     ensures { OnOk result ((b : ℕ) → has row.new.items b ≡ (has row.old.items b || reads_some (has_name names.now) readers.now b)) }
 {
     for reader in readers {
-        push_reader(row, names, *reader)?;
+        push_reader(row, names, reader)?;
     }
     Ok(())
 }
