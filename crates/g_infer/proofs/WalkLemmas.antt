@@ -88,9 +88,9 @@ have_after (g ∷ gs) M N apart unknown after = (
   have_after gs (λ d n. put (is_to g d n) g.type (M d n)) N apart.1 (λ d n is. still_unknown M g gs d n apart.0 is (unknown d n (inr is))) after,
 )
 
-pub adds_after : (gs : List Given) (M N : Types) → AreApart gs → ((d : ℕ) (n : List ℕ) → IsGivenTo gs d n → M d n ≡ None) → IsAfter M N gs → Adds M N gs
-adds_after gs M N apart unknown after = record {
-  given = have_after gs M N apart unknown after;
+pub adds_fresh : (gs : List Given) (M N : Types) → IsFresh M gs → IsAfter M N gs → Adds M N gs
+adds_fresh gs M N fresh after = record {
+  given = have_after gs M N fresh.apart fresh.unknown after;
   others = λ d n none. after d n ∙ untouched gs d n (M d n) none;
 }
 
@@ -432,9 +432,6 @@ module _ (called : Callees) (objects : Objects) (panel : List PanelItem) (es : L
       (made_ready called panel es typable.ready) v (in_all v (leaves g range v v l)) l
 
 -- ---- the code's loops
-
-pub adds_fresh : (gs : List Given) (M N : Types) → IsFresh M gs → IsAfter M N gs → Adds M N gs
-adds_fresh gs M N fresh after = adds_after gs M N fresh.apart fresh.unknown after
 
 -- an inserted type
 pub inserted : (b : Bool) (t : Ty) (o : Option Ty) → (if b then Some t else o) ≡ put b (Some t) o

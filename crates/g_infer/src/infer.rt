@@ -70,7 +70,7 @@ fn listed_cases<'a>(alloc: Global, scopes: Vec<Scope<'a>>) -> Result<List<CaseTy
 }
 
 fn listed_branches(alloc: Global, branches: Branches) -> Result<List<BranchCases>, AllocError>
-    ensures { IfOk result (λ listed. listed ≡ map told_branch branches.entry.entries) }
+    ensures { IfOk result (λ listed. listed ≡ map told_branch branches.entries) }
 {
     let mut listed = Vec::new(alloc);
     for (diagram, cases) in branches {
