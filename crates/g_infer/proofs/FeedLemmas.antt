@@ -3,7 +3,8 @@ use Rattle.std.proofs.Common.{◌≡◌, ◌⊎◌, inl, inr, ⊎_elim, ℕ, zer
 use Rattle.std.specs.Prelude.{Option, Some, None, slice_get, Vec}
 use Rattle.std.specs.List.{list_any}
 use Rattle.std.specs.Str.{bytes_eq}
-use Rattle.std.specs.Ordering.{ordering_then, nat_cmp}
+use Rattle.std.specs.Cmp.{unsigned_tied}
+use Rattle.std.specs.Ordering.{ordering_then, nat_cmp, is_eq}
 use Rattle.std.specs.Cmp.Lexicographic.{slice_cmp}
 use Rattle.std.specs.BTreeMap.{get_by}
 use Rattle.std.specs.declared.alloc.Global.{Global}
@@ -18,8 +19,10 @@ use Rattle.g_graph.proofs.Search.{has_at}
 use Rattle.g_typing.proofs.Roles.{nothing, IsRead}
 use Rattle.g_typing.specs.Typing.{Given, Callees, Objects, IsGivenTo}
 use Rattle.g_wires.proofs.Found.{or_left, or_right, or_cases, and_left, and_right, and_both, same_number}
-use Rattle.g_wires.proofs.NumberLemmas.{is_key, key_is}
-use Rattle.g_infer.specs.Feeding.{IsFeeding, IsReadersOf, IsRowOf, Readers, does_read, is_at, is_reader, leads_to}
+use Rattle.g_rules_types.proofs.Kept.{is_key, key_is}
+use Rattle.g_infer.specs.declared.feeds.Reader.{Reader}
+use Rattle.g_infer.specs.declared.feeds.Readers.{Readers}
+use Rattle.g_infer.specs.Feeding.{AreSame, ByDiagram, ByName, IsFeeding, IsReadersOf, IsRowOf, does_read, is_at, is_reader, is_reader_in, leads_to, readers_in, readers_of, reads_some}
 use Rattle.g_infer.specs.Gives.{form_gives}
 use Rattle.g_infer.specs.Reads.{named, all_named, form_reads}
 use Rattle.g_infer.specs.Steps.{Form}
@@ -30,10 +33,10 @@ or_false false = refl
 
 -- ---- readers that are added
 
-abbrev pub kept_for : Readers → (d : ℕ) → (name : List ℕ) → Option (Vec ℕ Global)
+abbrev pub kept_for : ByName → (d : ℕ) → (name : List ℕ) → Option (Vec ℕ Global)
 kept_for m d name = get_by (λ k. ordering_then (nat_cmp d k.0) (slice_cmp nat_cmp name k.1.now)) m
 
-module _ (old new : Readers) (d : ℕ) (name : List ℕ) (v : Vec ℕ Global) (step : ℕ)
+module _ (old new : ByName) (d : ℕ) (name : List ℕ) (v : Vec ℕ Global) (step : ℕ)
     (updates : (e : ℕ) (other : List ℕ) → kept_for new e other ≡ cond (is_key d name e other) (Some v) (kept_for old e other))
     (grows : (b : ℕ) → has v.items b ≡ (has (row_of (kept_for old d name)) b || (step == b))) where
   grown : (e : ℕ) (other : List ℕ) (b : ℕ) (k : Bool) → is_key d name e other ≡ k
@@ -56,12 +59,32 @@ put_back false v o = refl
 
 -- the readers of a name, appended to a row
 
-pub none_appended : (m : Readers) (d : ℕ) (name : List ℕ) (o : Option (Vec ℕ Global)) (row : List ℕ) (b : ℕ) → o ≡ kept_for m d name → o ≡ None → has row b ≡ (has row b || is_reader m d name b)
+pub none_appended : (m : ByName) (d : ℕ) (name : List ℕ) (o : Option (Vec ℕ Global)) (row : List ℕ) (b : ℕ) → o ≡ kept_for m d name → o ≡ None → has row b ≡ (has row b || is_reader m d name b)
 none_appended m d name o row b e f = sym (or_false (has row b)) ∙ ap (λ p. has row b || has (row_of p) b) (sym f ∙ e)
 
-pub all_appended : (m : Readers) (d : ℕ) (name : List ℕ) (v : Vec ℕ Global) (row new : List ℕ) (b : ℕ) → Some v ≡ kept_for m d name → new ≡ row ++ v.items → has new b ≡ (has row b || is_reader m d name b)
+pub all_appended : (m : ByName) (d : ℕ) (name : List ℕ) (v : Vec ℕ Global) (row new : List ℕ) (b : ℕ) → Some v ≡ kept_for m d name → new ≡ row ++ v.items → has new b ≡ (has row b || is_reader m d name b)
 all_appended m d name v row new b e f =
     ap (λ xs. has xs b) f ∙ list_any-append (λ c. c == b) row v.items ∙ ap (λ p. has row b || has (row_of p) b) e
+
+-- a reader more in its diagram
+in_its_diagram : (r : Reader) (rs : List Reader) (other : List ℕ) (b : ℕ) → reads_some (λ n. bytes_eq n other) (rs ++ r ∷ []) b ≡ (reads_some (λ n. bytes_eq n other) rs b || (bytes_eq r.name.now other && (r.step == b)))
+in_its_diagram r rs other b =
+    list_any-append (λ (x : Reader). bytes_eq x.name.now other && (x.step == b)) rs (r ∷ []) ∙ ap (λ c. reads_some (λ n. bytes_eq n other) rs b || c) (or_false (bytes_eq r.name.now other && (r.step == b)))
+
+pub reader_in_added : (old new : ByDiagram) (d : ℕ) (r : Reader) (v : Vec Reader Global)
+    → ((e : ℕ) → readers_in new e ≡ readers_of (cond (is_eq (nat_cmp d e)) (Some v) (cond (is_eq (nat_cmp d e)) None (get_by (nat_cmp e) old))))
+    → v.items ≡ readers_in old d ++ r ∷ []
+    → (e : ℕ) (other : List ℕ) (b : ℕ) → is_reader_in new e other b ≡ (is_reader_in old e other b || (is_at e other (d, r.name.now) && (r.step == b)))
+reader_in_added old new d r v updates grows e other b =
+    ap (λ rs. reads_some (λ n. bytes_eq n other) rs b) (updates e) ∙ by (is_eq (nat_cmp d e)) (sym (unsigned_tied d e))
+  where
+    by : (k : Bool) → (d == e) ≡ k
+        → reads_some (λ n. bytes_eq n other) (readers_of (cond k (Some v) (cond k None (get_by (nat_cmp e) old)))) b ≡ (is_reader_in old e other b || (is_at e other (d, r.name.now) && (r.step == b)))
+    by true h =
+        ap (λ rs. reads_some (λ n. bytes_eq n other) rs b) grows ∙ in_its_diagram r (readers_in old d) other b
+        ∙ ap (λ (x : ℕ). is_reader_in old x other b || (bytes_eq r.name.now other && (r.step == b))) (same_number d e h)
+        ∙ ap (λ c. is_reader_in old e other b || ((c && bytes_eq r.name.now other) && (r.step == b))) (sym h)
+    by false h = sym (or_false (is_reader_in old e other b)) ∙ ap (λ c. is_reader_in old e other b || ((c && bytes_eq r.name.now other) && (r.step == b))) (sym h)
 
 or_step : (o p r s : Bool) → ((o || (p && s)) || (r && s)) ≡ (o || ((p || r) && s))
 or_step true p r s = refl
@@ -162,7 +185,7 @@ read_of : (qs : List (ℕ × Wire)) (d : ℕ) (name : List ℕ) → list_any (is
 read_of [] d name h = absurd cc
 read_of (q ∷ qs) d name h = ⊎_elim (λ l. inl l) (λ r. inr (read_of qs d name r)) (named_of q.0 q.1 (all_named qs) d name h)
 
-module _ (m : Readers) where
+module _ (m : ByName) where
   given_test : (gs : List Given) (b d : ℕ) (name : List ℕ) → IsGivenTo gs d name → is_reader m d name b ≡ true → leads_to m gs b ≡ true
   given_test [] b d name h k = absurd h
   given_test (g ∷ gs) b d name (inl h) k =
@@ -182,6 +205,9 @@ module _ (m : Readers) where
       (λ l. record { diagram = g.diagram; name = g.name; given = inl (refl, refl); read = l })
       (λ r. let o : Led gs b = given_of gs b r in record { diagram = o.diagram; name = o.name; given = inr o.given; read = o.read })
       (or_cases (is_reader m g.diagram g.name b) (leads_to m gs b) h)
+
+pub both_same : (forms : List Form) (m : Readers) → IsReadersOf forms m → AreSame m
+both_same forms m h d name b = h.by_diagram d name b ∙ sym (h.by_name d name b)
 
 -- ---- the graph
 
@@ -208,21 +234,21 @@ reads_below forms b d name h =
     (split b (length forms))
 
 module _ (forms : List Form) (m : Readers) (g : Graph) (readers : IsReadersOf forms m) (rows : Rows m forms (length forms) g) where
-  edge_is : (called : Callees) (objects : Objects) (a b : ℕ) (s : Form) → slice_get forms a ≡ Some s → has_edge g a b ≡ leads_to m (form_gives called objects nothing s) b
+  edge_is : (called : Callees) (objects : Objects) (a b : ℕ) (s : Form) → slice_get forms a ≡ Some s → has_edge g a b ≡ leads_to m.by_name (form_gives called objects nothing s) b
   edge_is called objects a b s at = rows a s (below forms a s at) at called objects b
 
   pub feeding : IsFeeding forms g
   feeding = record {
     leads = λ called objects a b s t at bt f.
         edge_is called objects a b s at
-        ∙ given_test m (form_gives called objects nothing s) b f.diagram f.name f.gives
-        (readers f.diagram f.name b ∙ ap (λ o. does_read o f.diagram f.name) bt ∙ read_test (form_reads t) f.diagram f.name f.reads);
+        ∙ given_test m.by_name (form_gives called objects nothing s) b f.diagram f.name f.gives
+        (readers.by_name f.diagram f.name b ∙ ap (λ o. does_read o f.diagram f.name) bt ∙ read_test (form_reads t) f.diagram f.name f.reads);
     only = λ called objects a b s t at bt h.
-        let led : Led m (form_gives called objects nothing s) b = given_of m (form_gives called objects nothing s) b (sym (edge_is called objects a b s at) ∙ h) in
+        let led : Led m.by_name (form_gives called objects nothing s) b = given_of m.by_name (form_gives called objects nothing s) b (sym (edge_is called objects a b s at) ∙ h) in
         record {
           diagram = led.diagram;
           name = led.name;
-          reads = read_of (form_reads t) led.diagram led.name (ap (λ o. does_read o led.diagram led.name) (sym bt) ∙ sym (readers led.diagram led.name b) ∙ led.read);
+          reads = read_of (form_reads t) led.diagram led.name (ap (λ o. does_read o led.diagram led.name) (sym bt) ∙ sym (readers.by_name led.diagram led.name b) ∙ led.read);
           gives = led.given;
         };
   }
@@ -232,8 +258,8 @@ module _ (forms : List Form) (m : Readers) (g : Graph) (readers : IsReadersOf fo
       let s : Stands forms a = stands forms a lt in
       let called : Callees = λ name. [] in
       let objects : Objects = λ name. None in
-      let led : Led m (form_gives called objects nothing s.item) b = given_of m (form_gives called objects nothing s.item) b (sym (edge_is called objects a b s.item s.at) ∙ h) in
-      reads_below forms b led.diagram led.name (sym (readers led.diagram led.name b) ∙ led.read)
+      let led : Led m.by_name (form_gives called objects nothing s.item) b = given_of m.by_name (form_gives called objects nothing s.item) b (sym (edge_is called objects a b s.item s.at) ∙ h) in
+      reads_below forms b led.diagram led.name (sym (readers.by_name led.diagram led.name b) ∙ led.read)
 
   pub in_range : length g ≡ length forms → InRange g
   in_range long a r lt k e within =

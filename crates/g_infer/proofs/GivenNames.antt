@@ -11,7 +11,7 @@ use Rattle.g_typing.specs.Types.{Types}
 use Rattle.g_typing.specs.Rows.{has_rows}
 use Rattle.g_typing.specs.Typing.{Given, Callees, Objects, given, given_each, line_inside, line_outside, lines_inside, lines_outside, border_given, arms_inside, result_given, results_given, parts_given, next_result, kind_given}
 use Rattle.g_infer.specs.Gives.{form_gives}
-use Rattle.g_infer.specs.Steps.{Form, Controls, Plain, Iteration, Opening, Closing, FrameClosing, Result}
+use Rattle.g_infer.specs.Steps.{Form, Controls, Plain, Iteration, Branches, Opening, Closing, FrameClosing, Result}
 
 module _ (p : ℕ → List ℕ → Bool) where
   abbrev test : List Given → Bool
@@ -46,7 +46,7 @@ module _ (p : ℕ → List ℕ → Bool) where
   inside M T d b before (line.Element array index inner next outer) = one b inner _ _
   inside M T d b before (line.Field k cluster inner next outer) = one b inner _ _
 
-  all_inside : (M T : Types) (d b : ℕ) (before : Option ℕ) (ts : List Tunnel) → test (lines_inside M d b before ts) ≡ test (lines_inside T d b before ts)
+  pub all_inside : (M T : Types) (d b : ℕ) (before : Option ℕ) (ts : List Tunnel) → test (lines_inside M d b before ts) ≡ test (lines_inside T d b before ts)
   all_inside M T d b before [] = refl
   all_inside M T d b before (t ∷ ts) =
       both (line_inside M d b before t) (line_inside T d b before t) (lines_inside M d b before ts) (lines_inside T d b before ts) (inside M T d b before t)
@@ -133,6 +133,7 @@ module _ (p : ℕ → List ℕ → Bool) where
   form_test c d o q M T (Controls items) = refl
   form_test c d o q M T (Plain e) = kind_test c d o q M T (has_rows M e) (has_rows T e) e.diagram e.kind
   form_test c d o q M T (Iteration body wire) = refl
+  form_test c d o q M T (Branches outer ts arms) = arms_test M T outer ts arms
   form_test c d o q M T (Opening outer inner before ts) = all_inside M T outer inner before ts
   form_test c d o q M T (Closing e inner ts) = all_outside M T (has_rows M e) (has_rows T e) e.diagram inner ts
   form_test c d o q M T (FrameClosing outer inner ts) = all_outside M T true true outer inner ts

@@ -1,21 +1,19 @@
 -- The types of a hierarchy and its breaks, from what is found of its VIs.
-use Rattle.std.proofs.Common.{◌≡◌, ⊎_elim, ℕ, zero, suc, ◌+◌, ◌<◌, ◌≤◌, ◌==◌, true, cond, ◌&&◌, List, [], ◌∷◌, ◌++◌, map, length, refl, ap, sym, ◌∙◌, subst, append_assoc, length-append, arith}
-use Rattle.std.specs.Prelude.{Option, Some, None, slice_get}
-use Rattle.std.specs.declared.cmp.Ordering.{Ordering}
-use Rattle.std.specs.declared.cmp.Ordering.TheVariants.{Less, Equal, Greater}
+use Rattle.std.proofs.Common.{◌≡◌, ⊎_elim, ℕ, zero, suc, ◌+◌, ◌<◌, ◌≤◌, ◌==◌, Bool, true, false, cond, ◌&&◌, List, [], ◌∷◌, ◌++◌, map, length, refl, ap, sym, ◌∙◌, subst, append_assoc, length-append, arith}
+use Rattle.std.specs.Prelude.{Option, Some, None, slice_get, Vec}
+use Rattle.std.specs.declared.alloc.Global.{Global}
 use Rattle.std.specs.Ordering.{ordering_then, nat_cmp, is_eq}
-use Rattle.std.specs.Cmp.{unsigned_tied, eq_by_cmp_equiv, both_ways}
+use Rattle.std.specs.Cmp.{unsigned_tied, eq_by_cmp_equiv}
 use Rattle.std.specs.Cmp.Lexicographic.{slice_cmp}
 use Rattle.std.specs.List.{Contains}
 use Rattle.std.specs.List.Sorted.{IsStrictlySortedBy}
 use Rattle.std.specs.Map.{lookup}
-use Rattle.std.specs.Option.{option_map}
+use Rattle.std.specs.Option.{option_map, option_or}
 use Rattle.std.specs.Str.{bytes_eq}
 use Rattle.std.proofs.lemmas.List.{append-nil}
-use Rattle.std.proofs.lemmas.Option.{slice_get_within}
+use Rattle.std.proofs.lemmas.Option.{slice_get_within, slice_get-map}
 use Rattle.std.proofs.lemmas.List.Elements.{Contains-append_left, Contains-append_right, Contains-append_cases}
 use Rattle.std.proofs.lemmas.Map.Text.{is_eq-slice_cmp}
-use Rattle.std.proofs.lemmas.Slice.Eq.{bytes_eq-Decides}
 use Rattle.std.proofs.lemmas.Map.Views.{Contains-from_any, list_any-from_Contains}
 use denote.Ref.{Bor}
 use mathlib.Core.Path.{fun_ext}
@@ -34,12 +32,17 @@ use Rattle.g_typing.proofs.Agreed.{Typed as IsTypingBy, one_typing}
 use Rattle.g_typing_laws.specs.Typable.{IsTypable}
 use Rattle.g_rules_breaks.specs.Breaks.{break_cmp, has_break, ListsEach}
 use Rattle.g_rules_breaks.proofs.Ordered.{break_total, same_break}
+use Rattle.g_infer.specs.declared.typed.BranchCases.{BranchCases}
+use Rattle.g_infer.specs.declared.typed.CaseTypes.{CaseTypes}
 use Rattle.g_infer.specs.declared.typed.SourceType.{SourceType}
 use Rattle.g_infer.specs.declared.typed.Typed.{Typed}
 use Rattle.g_infer.specs.declared.typed.ViTypes.{ViTypes}
-use Rattle.g_infer.specs.Answer.{types_in, HasTyping, IsTyped}
-use Rattle.g_infer.specs.Inferred.{told_source, AreTypings, all_breaks, Inferred}
-use Rattle.g_rules_types.specs.Known.{Table, types_of}
+use Rattle.g_infer.specs.Answer.{source_type, named_type, case_type, branch_type, branch_cases, types_in, HasTyping, IsTyped}
+use Rattle.g_infer.specs.Inferred.{told_source, told_name, told_case, told_branch, AreTypings, all_breaks, Inferred}
+use Rattle.g_rules_types.specs.declared.types.WireTypes.{WireTypes}
+use Rattle.g_rules_types.specs.Known.{Scope, cases_of, first_type, numbers, own_type, scope_type, types_of}
+use Rattle.g_rules_types.proofs.Kept.{is_key, key_is}
+use Rattle.g_infer.proofs.Branching.{same_bytes}
 use Rattle.g_rules_types.specs.Panels.{or_nothing}
 use Rattle.g_infer.proofs.PlaceLemmas.{told_in}
 
@@ -57,53 +60,84 @@ objects_same objects panel h = fun_ext h
 
 -- ---- a table of types, told
 
-is_eq-then : (r o : Ordering) → is_eq (ordering_then r o) ≡ (is_eq r && is_eq o)
-is_eq-then Less o = refl
-is_eq-then Equal o = refl
-is_eq-then Greater o = refl
-
 same_number_back : (d e : ℕ) → (d == e) ≡ (e == d)
 same_number_back d e = grind arith
 
-same_bytes_back : (a b : List ℕ) → bytes_eq a b ≡ bytes_eq b a
-same_bytes_back a b =
-    both_ways (bytes_eq a b) (bytes_eq b a) (λ h. (bytes_eq-Decides b a).1 (sym ((bytes_eq-Decides a b).0 h))) (λ h. (bytes_eq-Decides a b).1 (sym ((bytes_eq-Decides b a).0 h)))
-
-key_is : (d : ℕ) (name : List ℕ) (e : ℕ) (other : List ℕ) → is_eq (ordering_then (nat_cmp d e) (slice_cmp nat_cmp name other)) ≡ ((e == d) && bytes_eq other name)
-key_is d name e other =
-    is_eq-then (nat_cmp d e) (slice_cmp nat_cmp name other)
-    ∙ ap (λ b. b && is_eq (slice_cmp nat_cmp name other)) (unsigned_tied d e ∙ same_number_back d e)
-    ∙ ap (λ b. (e == d) && b) (is_eq-slice_cmp name other ∙ same_bytes_back name other)
+told_key : (d : ℕ) (name : List ℕ) (e : ℕ) (other : List ℕ) → is_key d name e other ≡ ((e == d) && bytes_eq other name)
+told_key d name e other =
+    key_is d name e other ∙ ap (λ b. b && bytes_eq name other) (same_number_back d e) ∙ ap (λ b. (e == d) && b) (same_bytes name other)
 
 abbrev pub TableEntry : Type 0
 TableEntry = (ℕ × Bor (List ℕ)) × Ty
 
+abbrev pub NameEntry : Type 0
+NameEntry = Bor (List ℕ) × Ty
+
+abbrev pub BranchEntry : Type 0
+BranchEntry = ℕ × Vec ℕ Global
+
 -- a list of the entries tells what the table has
 told_entries : (es : List TableEntry) (d : ℕ) (name : List ℕ)
-    → types_in (map told_source es) d name ≡ lookup (λ (k : ℕ × Bor (List ℕ)). is_eq (ordering_then (nat_cmp d k.0) (slice_cmp nat_cmp name k.1.now))) es
+    → source_type (map told_source es) d name ≡ lookup (λ (k : ℕ × Bor (List ℕ)). is_eq (ordering_then (nat_cmp d k.0) (slice_cmp nat_cmp name k.1.now))) es
 told_entries [] d name = refl
 told_entries (e ∷ es) d name =
-    ap (λ b. cond b (Some e.1) (types_in (map told_source es) d name)) (sym (key_is d name e.0.0 e.0.1.now))
+    ap (λ b. cond b (Some e.1) (source_type (map told_source es) d name)) (sym (told_key d name e.0.0 e.0.1.now))
     ∙ ap (cond (is_eq (ordering_then (nat_cmp d e.0.0) (slice_cmp nat_cmp name e.0.1.now))) (Some e.1)) (told_entries es d name)
 
-pub types_told : (table : Table) (sources : List SourceType) → sources ≡ map told_source table.entries → (d : ℕ) (name : List ℕ) → types_in sources d name ≡ types_of table d name
-types_told table sources e d name = ap (λ (ss : List SourceType). types_in ss d name) e ∙ told_entries table.entries d name
+told_names : (es : List NameEntry) (name : List ℕ)
+    → named_type (map told_name es) name ≡ lookup (λ (k : Bor (List ℕ)). is_eq (slice_cmp nat_cmp name k.now)) es
+told_names [] name = refl
+told_names (e ∷ es) name =
+    ap (λ b. cond b (Some e.1) (named_type (map told_name es) name)) (same_bytes e.0.now name ∙ sym (is_eq-slice_cmp name e.0.now))
+    ∙ ap (cond (is_eq (slice_cmp nat_cmp name e.0.now)) (Some e.1)) (told_names es name)
+
+told_scope : (o : Option Scope) (name : List ℕ) → case_type (option_map told_case o) name ≡ scope_type o name
+told_scope None name = refl
+told_scope (Some scope) name = told_names scope.entries name
+
+told_first : (scopes : List Scope) (ks : List ℕ) (name : List ℕ) → branch_type (map told_case scopes) ks name ≡ first_type scopes ks name
+told_first scopes [] name = refl
+told_first scopes (k ∷ ks) name =
+    ap (λ o. option_or (case_type o name) (branch_type (map told_case scopes) ks name)) (slice_get-map told_case scopes k)
+    ∙ ap (λ o. option_or o (branch_type (map told_case scopes) ks name)) (told_scope (slice_get scopes k) name)
+    ∙ ap (option_or (scope_type (slice_get scopes k) name)) (told_first scopes ks name)
+
+numbers_if : (b : Bool) (v : Vec ℕ Global) (o : Option (Vec ℕ Global)) → numbers (cond b (Some v) o) ≡ cond b v.items (numbers o)
+numbers_if true v o = refl
+numbers_if false v o = refl
+
+told_branches : (es : List BranchEntry) (d : ℕ) → branch_cases (map told_branch es) d ≡ numbers (lookup (λ k. is_eq (nat_cmp d k)) es)
+told_branches [] d = refl
+told_branches (e ∷ es) d =
+    ap (λ b. cond b e.1.items (branch_cases (map told_branch es) d)) (same_number_back e.0 d ∙ sym (unsigned_tied d e.0))
+    ∙ ap (cond (is_eq (nat_cmp d e.0)) e.1.items) (told_branches es d)
+    ∙ sym (numbers_if (is_eq (nat_cmp d e.0)) e.1 (lookup (λ k. is_eq (nat_cmp d k)) es))
+
+pub types_told : (m : WireTypes) (found : ViTypes) → found.sources ≡ map told_source m.own.entries → found.cases ≡ map told_case m.cases.items
+    → found.branches ≡ map told_branch m.branches.entries → (d : ℕ) (name : List ℕ) → types_in found d name ≡ types_of m d name
+types_told m found es ec eb d name =
+    ap (λ (ss : List SourceType). option_or (source_type ss d name) (branch_type found.cases (branch_cases found.branches d) name)) es
+    ∙ ap (λ o. option_or o (branch_type found.cases (branch_cases found.branches d) name)) (told_entries m.own.entries d name)
+    ∙ ap (λ (cs : List CaseTypes). option_or (own_type m d name) (branch_type cs (branch_cases found.branches d) name)) ec
+    ∙ ap (λ (bs : List BranchCases). option_or (own_type m d name) (branch_type (map told_case m.cases.items) (branch_cases bs d) name)) eb
+    ∙ ap (λ ks. option_or (own_type m d name) (branch_type (map told_case m.cases.items) ks name)) (told_branches m.branches.entries d)
+    ∙ ap (option_or (own_type m d name)) (told_first m.cases.items (cases_of m.branches d) name)
 
 -- ---- the same types, nodes and panels by other names
 
-types_same : (sources : List SourceType) (M : Types) → ((d : ℕ) (name : List ℕ) → types_in sources d name ≡ M d name) → M ≡ types_in sources
-types_same sources M h = fun_ext (λ d. fun_ext (λ name. sym (h d name)))
+types_same : (found : ViTypes) (M : Types) → ((d : ℕ) (name : List ℕ) → types_in found d name ≡ M d name) → M ≡ types_in found
+types_same found M h = fun_ext (λ d. fun_ext (λ name. sym (h d name)))
 
-pub typing_told : (called : Callees) (panel : List PanelItem) (es : List Entry) (sources : List SourceType) (M : Types) → ((d : ℕ) (name : List ℕ) → types_in sources d name ≡ M d name)
-    → IsTypingBy called panel es M → IsTypingBy called panel es (types_in sources)
-typing_told called panel es sources M h typing =
+pub typing_told : (called : Callees) (panel : List PanelItem) (es : List Entry) (found : ViTypes) (M : Types) → ((d : ℕ) (name : List ℕ) → types_in found d name ≡ M d name)
+    → IsTypingBy called panel es M → IsTypingBy called panel es (types_in found)
+typing_told called panel es found M h typing =
     let P : Types → Type 0 = λ types. IsTypingBy called panel es types in
-    subst P (types_same sources M h) typing
+    subst P (types_same found M h) typing
 
-pub breaks_told : (called : Callees) (objects : Objects) (panel : List PanelItem) (es : List Entry) (sources : List SourceType) (M : Types) (v : ℕ) (old new : List Break) → objects ≡ panel_type panel
-    → ((d : ℕ) (name : List ℕ) → types_in sources d name ≡ M d name) → new ≡ old ++ breaks_by called objects panel M v es → new ≡ old ++ breaks_with called panel (types_in sources) v es
-breaks_told called objects panel es sources M v old new eo h e =
-    e ∙ ap (λ (os : Objects). old ++ breaks_by called os panel M v es) eo ∙ ap (λ (types : Types). old ++ breaks_with called panel types v es) (types_same sources M h)
+pub breaks_told : (called : Callees) (objects : Objects) (panel : List PanelItem) (es : List Entry) (found : ViTypes) (M : Types) (v : ℕ) (old new : List Break) → objects ≡ panel_type panel
+    → ((d : ℕ) (name : List ℕ) → types_in found d name ≡ M d name) → new ≡ old ++ breaks_by called objects panel M v es → new ≡ old ++ breaks_with called panel (types_in found) v es
+breaks_told called objects panel es found M v old new eo h e =
+    e ∙ ap (λ (os : Objects). old ++ breaks_by called os panel M v es) eo ∙ ap (λ (types : Types). old ++ breaks_with called panel types v es) (types_same found M h)
 
 pub typable_at : (called : Callees) (panel own : List PanelItem) (es all : List Entry) → panel ≡ own → es ≡ all → IsTypable called own all → IsTypable called panel es
 typable_at called panel own es all ep ee h =
@@ -128,16 +162,16 @@ some_same : {X : Type 0} (x y : X) → Some x ≡ Some y → x ≡ y
 some_same x y e = cc
 
 pub typings_more : (called : Callees) (vis : List Vi) (ts : List ViTypes) (vi : Vi) (t : ViTypes) → slice_get vis (length ts) ≡ Some vi → AreTypings called vis ts
-    → IsTypingBy called vi.panel (entries_of vi) (types_in t.sources) → AreTypings called vis (ts ++ t ∷ [])
+    → IsTypingBy called vi.panel (entries_of vi) (types_in t) → AreTypings called vis (ts ++ t ∷ [])
 typings_more called [] [] vi t at h k = absurd cc
 typings_more called (v ∷ vis) [] vi t at h k =
-    let P : Vi → Type 0 = λ w. IsTypingBy called w.panel (entries_of w) (types_in t.sources) in
+    let P : Vi → Type 0 = λ w. IsTypingBy called w.panel (entries_of w) (types_in t) in
     (subst P (sym (some_same v vi at)) k, tt)
 typings_more called [] (u ∷ ts) vi t at h k = h
 typings_more called (v ∷ vis) (u ∷ ts) vi t at h k = (h.0, typings_more called vis ts vi t at h.1 k)
 
 abbrev told_by : Callees → ℕ → Vi → ViTypes → List Break
-told_by called number vi t = breaks_with called vi.panel (types_in t.sources) number (entries_of vi)
+told_by called number vi t = breaks_with called vi.panel (types_in t) number (entries_of vi)
 
 told_same : (called : Callees) (m n : ℕ) (v w : Vi) (t u : ViTypes) → m ≡ n → v ≡ w → t ≡ u → told_by called m v t ≡ told_by called n w u
 told_same called m n v w t u em ev et = ap (λ k. told_by called k v t) em ∙ ap (λ (x : Vi). told_by called n x t) ev ∙ ap (λ (x : ViTypes). told_by called n w x) et
@@ -158,8 +192,8 @@ inferred_none called vis found told e f =
     subst P (sym e) (record { count = refl; typings = tt; breaks = f })
 
 pub inferred_more : (called : Callees) (vis : List Vi) (n : ℕ) (vi : Vi) (t : ViTypes) (old found : List ViTypes) (before told : List Break) → slice_get vis n ≡ Some vi
-    → Inferred called vis n old before → found ≡ old ++ t ∷ [] → IsTypingBy called vi.panel (entries_of vi) (types_in t.sources)
-    → told ≡ before ++ breaks_with called vi.panel (types_in t.sources) n (entries_of vi) → Inferred called vis (n + 1) found told
+    → Inferred called vis n old before → found ≡ old ++ t ∷ [] → IsTypingBy called vi.panel (entries_of vi) (types_in t)
+    → told ≡ before ++ breaks_with called vi.panel (types_in t) n (entries_of vi) → Inferred called vis (n + 1) found told
 inferred_more called vis n vi t old found before told at i e typing more =
     let here : slice_get vis (length old) ≡ Some vi = ap (slice_get vis) i.count ∙ at in
     let P : List ViTypes → Type 0 = λ ts. Inferred called vis (n + 1) ts told in
@@ -171,13 +205,13 @@ inferred_more called vis n vi t old found before told at i e typing more =
 
 -- the same by what is known of calls, and the number of the VI
 pub inferred_next : (known : Callees) (vis : List Vi) (n number : ℕ) (vi : Vi) (t : ViTypes) (old found : List ViTypes) (before told : List Break) → known ≡ called_panel vis → number ≡ n
-    → slice_get vis n ≡ Some vi → Inferred (called_panel vis) vis n old before → found ≡ old ++ t ∷ [] → IsTypingBy known vi.panel (entries_of vi) (types_in t.sources)
-    → told ≡ before ++ breaks_with known vi.panel (types_in t.sources) number (entries_of vi) → Inferred (called_panel vis) vis (n + 1) found told
+    → slice_get vis n ≡ Some vi → Inferred (called_panel vis) vis n old before → found ≡ old ++ t ∷ [] → IsTypingBy known vi.panel (entries_of vi) (types_in t)
+    → told ≡ before ++ breaks_with known vi.panel (types_in t) number (entries_of vi) → Inferred (called_panel vis) vis (n + 1) found told
 inferred_next known vis n number vi t old found before told ek en at i e typing more =
-    let P : Callees → Type 0 = λ called. IsTypingBy called vi.panel (entries_of vi) (types_in t.sources) in
+    let P : Callees → Type 0 = λ called. IsTypingBy called vi.panel (entries_of vi) (types_in t) in
     inferred_more (called_panel vis) vis n vi t old found before told at i e (subst P ek typing)
-    (more ∙ ap (λ (called : Callees). before ++ breaks_with called vi.panel (types_in t.sources) number (entries_of vi)) ek
-    ∙ ap (λ k. before ++ breaks_with (called_panel vis) vi.panel (types_in t.sources) k (entries_of vi)) en)
+    (more ∙ ap (λ (called : Callees). before ++ breaks_with called vi.panel (types_in t) number (entries_of vi)) ek
+    ∙ ap (λ k. before ++ breaks_with (called_panel vis) vi.panel (types_in t) k (entries_of vi)) en)
 
 pub typable_by : (known : Callees) (vis : List Vi) (vi : Vi) → known ≡ called_panel vis → IsTypable (called_panel vis) vi.panel (entries_of vi) → IsTypable known vi.panel (entries_of vi)
 typable_by known vis vi ek h =
@@ -189,13 +223,13 @@ typable_by known vis vi ek h =
 record FoundAt (called : Callees) (vi : Vi) (o : Option ViTypes) : Type 0 where
   found : ViTypes
   is : o ≡ Some found
-  typing : IsTypingBy called vi.panel (entries_of vi) (types_in found.sources)
+  typing : IsTypingBy called vi.panel (entries_of vi) (types_in found)
 
 found_at : (called : Callees) (vis : List Vi) (ts : List ViTypes) (k : ℕ) (vi : Vi) → AreTypings called vis ts → k < length ts → slice_get vis k ≡ Some vi → FoundAt called vi (slice_get ts k)
 found_at called [] ts k vi h lt at = absurd cc
 found_at called (v ∷ vis) [] k vi h lt at = absurd (omega arith)
 found_at called (v ∷ vis) (t ∷ ts) zero vi h lt at =
-    let P : Vi → Type 0 = λ w. IsTypingBy called w.panel (entries_of w) (types_in t.sources) in
+    let P : Vi → Type 0 = λ w. IsTypingBy called w.panel (entries_of w) (types_in t) in
     record { found = t; is = refl; typing = subst P (some_same v vi at) h.0 }
 found_at called (v ∷ vis) (t ∷ ts) (suc k) vi h lt at = found_at called vis ts k vi h.1 (omega (arith, lt)) at
 
@@ -278,7 +312,7 @@ module _ (h : Hierarchy) (found : List ViTypes) (told : List Break) (none : None
   each_told : (b : Break) → TypeBreak h b → Contains told b
   each_told b t =
       let f : FoundAt called t.vi (slice_get found b.place.vi) = at_vi b.place.vi t.vi t.stands in
-      let same : t.types ≡ types_in f.found.sources = one_typing h.vis t.vi t.types (types_in f.found.sources) (none b.place.vi t.vi t.stands) t.typing (typing_of h.vis t.vi (types_in f.found.sources) f.typing) in
+      let same : t.types ≡ types_in f.found = one_typing h.vis t.vi t.types (types_in f.found) (none b.place.vi t.vi t.stands) t.typing (typing_of h.vis t.vi (types_in f.found) f.typing) in
       let P : List Break → Type 0 = λ bs. Contains bs b in
       let Q : Types → Type 0 = λ types. Contains (breaks_with called t.vi.panel types b.place.vi (entries_of t.vi)) b in
       subst P (sym i.breaks) (told_of_one called 0 b.place.vi h.vis found b.place.vi t.vi f.found b t.stands f.is (omega arith) (subst Q same t.is_broken))
@@ -287,18 +321,18 @@ module _ (h : Hierarchy) (found : List ViTypes) (told : List Break) (none : None
   only_told b c =
       let P : List Break → Type 0 = λ bs. Contains bs b in
       let r : ToldAt called 0 h.vis found b = told_at called 0 h.vis found b (subst P i.breaks c) in
-      let at : b.place.vi ≡ 0 + r.at = told_in called (panel_type r.vi.panel) r.vi.panel (types_in r.types.sources) (0 + r.at) (entries_of r.vi) b r.told in
+      let at : b.place.vi ≡ 0 + r.at = told_in called (panel_type r.vi.panel) r.vi.panel (types_in r.types) (0 + r.at) (entries_of r.vi) b r.told in
       let here : b.place.vi ≡ r.at = omega (arith, at) in
       let f : FoundAt called r.vi (slice_get found r.at) = at_vi r.at r.vi r.stands in
       let same : f.found ≡ r.types = some_same f.found r.types (sym f.is ∙ r.found) in
       let Q : ℕ → Type 0 = λ k. slice_get h.vis k ≡ Some r.vi in
       let R : ℕ → Type 0 = λ k. Contains (told_by called k r.vi r.types) b in
-      let T : ViTypes → Type 0 = λ types. IsTypingBy called r.vi.panel (entries_of r.vi) (types_in types.sources) in
+      let T : ViTypes → Type 0 = λ types. IsTypingBy called r.vi.panel (entries_of r.vi) (types_in types) in
       record {
         vi = r.vi;
         stands = subst Q (sym here) r.stands;
-        types = types_in r.types.sources;
-        typing = typing_of h.vis r.vi (types_in r.types.sources) (subst T same f.typing);
+        types = types_in r.types;
+        typing = typing_of h.vis r.vi (types_in r.types) (subst T same f.typing);
         is_broken = subst R (sym at) r.told;
       }
 
@@ -313,9 +347,9 @@ module _ (h : Hierarchy) (found : List ViTypes) (told : List Break) (none : None
   only_typing k vi at None f = let e = f.is in absurd cc
   only_typing k vi at (Some t) f =
       let same : f.found ≡ t = some_same f.found t (sym f.is) in
-      let T : ViTypes → Type 0 = λ types. IsTypingBy called vi.panel (entries_of vi) (types_in types.sources) in
-      let typing : IsTyping h.vis vi (types_in t.sources) = typing_of h.vis vi (types_in t.sources) (subst T same f.typing) in
-      record { typing = typing; only = λ others m. one_typing h.vis vi others (types_in t.sources) (none k vi at) m typing }
+      let T : ViTypes → Type 0 = λ types. IsTypingBy called vi.panel (entries_of vi) (types_in types) in
+      let typing : IsTyping h.vis vi (types_in t) = typing_of h.vis vi (types_in t) (subst T same f.typing) in
+      record { typing = typing; only = λ others m. one_typing h.vis vi others (types_in t) (none k vi at) m typing }
 
   none_listed : (bs : List Break) (b : Break) → length bs ≤ 0 → has_break bs b ≡ true → ⊥
   none_listed [] b le e = cc

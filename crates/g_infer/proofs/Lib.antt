@@ -1,3 +1,4 @@
+pub mod Branching
 pub mod FeedLemmas
 pub mod FormLemmas
 pub mod GivenNames

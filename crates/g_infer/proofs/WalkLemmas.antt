@@ -1,6 +1,6 @@
 -- Types that are decided step by step, in an order in which each step reads only what steps before it give.
 use Rattle.std.proofs.Common.{◌≡◌, ◌⊎◌, inl, inr, ⊎_elim, ℕ, zero, suc, ◌+◌, ◌<◌, ◌≤◌, ◌==◌, Bool, true, false, ◌&&◌, cond, List, [], ◌∷◌, ◌++◌, length, take, map, get_or, refl, ap, sym, ◌∙◌, subst, arith}
-use Rattle.std.specs.Prelude.{Option, Some, None, IfSome, IsNone, is_some, slice_get, Vec}
+use Rattle.std.specs.Prelude.{if◌then◌else◌, Option, Some, None, IfSome, IsNone, is_some, slice_get, Vec}
 use Rattle.std.specs.declared.alloc.Global.{Global}
 use Rattle.std.specs.Str.{bytes_eq}
 use Rattle.std.specs.List.{AllByRecursion}
@@ -21,8 +21,8 @@ use Rattle.g_graph_order.proofs.Waiting.{times-cons}
 use Rattle.g_typing.specs.Types.{Types}
 use Rattle.g_typing.specs.Typing.{Given, Callees, Objects, IsGivenTo, panel_type}
 use Rattle.g_typing.proofs.Agreed.{Typed}
-use Rattle.g_typing.proofs.Names.{SameNames, IsNamed, AreNamed, same_given, named_in, vi_named}
-use Rattle.g_typing.proofs.Only.{IsIn, all_gives, vi_steps, vi_gives, vi-local, local_in, holds_in, steps_hold}
+use Rattle.g_typing.proofs.Names.{SameNames, IsNamed, AreNamed, same_given, named_in}
+use Rattle.g_typing.proofs.Only.{IsIn, all_gives, local_in, holds_in}
 use Rattle.g_typing.proofs.Ready.{Feeds, no_cycle}
 use Rattle.g_typing.proofs.Roles.{nothing}
 use Rattle.g_typing.proofs.Unique.{Step, IsLocal, AreLocal, HaveGiven, HoldsAll}
@@ -32,8 +32,8 @@ use Rattle.g_infer.specs.Feeding.{IsFeeding}
 use Rattle.g_infer.specs.declared.steps.Step.{Step as Made}
 use Rattle.g_infer.specs.Gives.{form_gives, step_of}
 use Rattle.g_infer.specs.Steps.{Form, seen_step, vi_forms}
-use Rattle.g_infer.specs.Walking.{is_to, put, known_after, IsAfter, steps_of, CanWalk, IsTaken, HasWalked}
-use Rattle.g_infer.proofs.FormLemmas.{forms_are}
+use Rattle.g_infer.specs.Walking.{is_to, put, known_after, named_after, IsAfter, IsFresh, steps_of, CanWalk, IsTaken, HasWalked}
+use Rattle.g_infer.proofs.FormLemmas.{made_steps, made_gives, made_local, made_named, made_ready, made_hold}
 
 -- ---- what a step gives is added to the types
 
@@ -49,7 +49,7 @@ both_hold : (a b : Bool) → a ≡ true → b ≡ true → (a && b) ≡ true
 both_hold true b e f = f
 both_hold false b e f = cc
 
-same_itself : (d : ℕ) → (d == d) ≡ true
+pub same_itself : (d : ℕ) → (d == d) ≡ true
 same_itself d = grind arith
 
 own_name : (g : Given) → is_to g g.diagram g.name ≡ true
@@ -67,7 +67,7 @@ put_own true None o e none = none
 put_own true (Some t) o e none = refl
 put_own false t o e none = cc
 
-untouched : (gs : List Given) (d : ℕ) (n : List ℕ) (o : Option Ty) → (IsGivenTo gs d n → ⊥) → known_after gs d n o ≡ o
+pub untouched : (gs : List Given) (d : ℕ) (n : List ℕ) (o : Option Ty) → (IsGivenTo gs d n → ⊥) → known_after gs d n o ≡ o
 untouched [] d n o none = refl
 untouched (g ∷ gs) d n o none =
     untouched gs d n (put (is_to g d n) g.type o) (λ i. none (inr i)) ∙ put_other (is_to g d n) g.type o (not_to g d n (λ i. none (inl i)))
@@ -79,7 +79,7 @@ still_unknown M g gs d n once is none =
     (not_to g d n (λ same. once (subst (λ (e : ℕ). IsGivenTo gs e g.name) (sym same.0) (subst (λ (m : List ℕ). IsGivenTo gs d m) (sym same.1) is))))
     ∙ none
 
-have_after : (gs : List Given) (M N : Types) → AreApart gs → ((d : ℕ) (n : List ℕ) → IsGivenTo gs d n → M d n ≡ None) → IsAfter M N gs → HaveGiven N gs
+pub have_after : (gs : List Given) (M N : Types) → AreApart gs → ((d : ℕ) (n : List ℕ) → IsGivenTo gs d n → M d n ≡ None) → IsAfter M N gs → HaveGiven N gs
 have_after [] M N apart unknown after = tt
 have_after (g ∷ gs) M N apart unknown after = (
   after g.diagram g.name
@@ -88,28 +88,28 @@ have_after (g ∷ gs) M N apart unknown after = (
   have_after gs (λ d n. put (is_to g d n) g.type (M d n)) N apart.1 (λ d n is. still_unknown M g gs d n apart.0 is (unknown d n (inr is))) after,
 )
 
-adds_after : (gs : List Given) (M N : Types) → AreApart gs → ((d : ℕ) (n : List ℕ) → IsGivenTo gs d n → M d n ≡ None) → IsAfter M N gs → Adds M N gs
-adds_after gs M N apart unknown after = record {
-  given = have_after gs M N apart unknown after;
+pub adds_fresh : (gs : List Given) (M N : Types) → IsFresh M gs → IsAfter M N gs → Adds M N gs
+adds_fresh gs M N fresh after = record {
+  given = have_after gs M N fresh.apart fresh.unknown after;
   others = λ d n none. after d n ∙ untouched gs d n (M d n) none;
 }
 
 -- ---- names that are given once
 
-right_apart : (xs ys : List Given) → AreApart (xs ++ ys) → AreApart ys
+pub right_apart : (xs ys : List Given) → AreApart (xs ++ ys) → AreApart ys
 right_apart [] ys h = h
 right_apart (x ∷ xs) ys h = right_apart xs ys h.1
 
-given_in_left : (xs ys : List Given) (d : ℕ) (n : List ℕ) → IsGivenTo xs d n → IsGivenTo (xs ++ ys) d n
+pub given_in_left : (xs ys : List Given) (d : ℕ) (n : List ℕ) → IsGivenTo xs d n → IsGivenTo (xs ++ ys) d n
 given_in_left [] ys d n i = absurd i
 given_in_left (x ∷ xs) ys d n (inl i) = inl i
 given_in_left (x ∷ xs) ys d n (inr i) = inr (given_in_left xs ys d n i)
 
-given_in_right : (xs ys : List Given) (d : ℕ) (n : List ℕ) → IsGivenTo ys d n → IsGivenTo (xs ++ ys) d n
+pub given_in_right : (xs ys : List Given) (d : ℕ) (n : List ℕ) → IsGivenTo ys d n → IsGivenTo (xs ++ ys) d n
 given_in_right [] ys d n i = i
 given_in_right (x ∷ xs) ys d n i = inr (given_in_right xs ys d n i)
 
-left_apart : (xs ys : List Given) → AreApart (xs ++ ys) → AreApart xs
+pub left_apart : (xs ys : List Given) → AreApart (xs ++ ys) → AreApart xs
 left_apart [] ys h = tt
 left_apart (x ∷ xs) ys h = ((λ i. h.0 (given_in_left xs ys x.diagram x.name i)), left_apart xs ys h.1)
 
@@ -242,8 +242,8 @@ walk_begins ss nodes M none = record {
   all = λ t taken. absurd (let lt = taken.before in omega (arith, lt));
 }
 
-module _ (ss : List Step) (nodes : List ℕ) (can : CanWalk ss nodes) (i : ℕ) (M N : Types) (w : HasWalked ss nodes i M) (v : ℕ) (s : Step)
-    (at : slice_get nodes i ≡ Some v) (is : slice_get ss v ≡ Some s) (after : IsAfter M N (s.gives M)) where
+module _ (ss : List Step) (nodes : List ℕ) (can : CanWalk ss nodes) (i : ℕ) (M : Types) (w : HasWalked ss nodes i M) (v : ℕ) (s : Step)
+    (at : slice_get nodes i ≡ Some v) (is : slice_get ss v ≡ Some s) where
   stands_once : times nodes v ≤ 1
   stands_once = let lt = slice_get_within ss v s is in let len = can.long in let one = can.order.each v (omega (arith, lt, len)) in omega (arith, one)
 
@@ -275,14 +275,17 @@ module _ (ss : List Step) (nodes : List ℕ) (can : CanWalk ss nodes) (i : ℕ) 
   unknown d n given =
       w.walked.others d n (λ t k g. gives_apart t (w.from t k) d n g (same_given (s.gives M) (s.gives nothing) d n (named_s M nothing) given))
 
-  adds : Adds M N (s.gives M)
-  adds = adds_after (s.gives M) M N (same_apart (s.gives nothing) (s.gives M) (named_s nothing M) (named_s M nothing) (step_apart ss v s is can.apart)) unknown after
+  pub fresh : IsFresh M (s.gives M)
+  fresh = record {
+    apart = same_apart (s.gives nothing) (s.gives M) (named_s nothing M) (named_s M nothing) (step_apart ss v s is can.apart);
+    unknown = unknown;
+  }
 
   member : (t : Step) → IsIn t w.done → IsIn t ss
   member t k = let taken = w.from t k in is_in ss taken.node t taken.is
 
-  walked_more : Walked N (s ∷ w.done)
-  walked_more =
+  walked_more : (N : Types) → Adds M N (s.gives M) → Walked N (s ∷ w.done)
+  walked_more N adds =
       walked_on M N s adds named_s w.done
       (local_in s ss can.local (is_in ss v s is))
       (all_are_local w.done (λ t k. local_in t ss can.local (member t k)))
@@ -306,10 +309,10 @@ module _ (ss : List Step) (nodes : List ℕ) (can : CanWalk ss nodes) (i : ℕ) 
       inl (let this : s ≡ t = cc in this)
   was_taken t taken (inr lt) = inr (w.all t (record { place = taken.place; before = lt; node = taken.node; at = taken.at; is = taken.is }))
 
-  pub walk_on : HasWalked ss nodes (i + 1) N
-  walk_on = record {
+  pub walk_on : (N : Types) → Adds M N (s.gives M) → HasWalked ss nodes (i + 1) N
+  walk_on N adds = record {
     done = s ∷ w.done;
-    walked = walked_more;
+    walked = walked_more N adds;
     from = λ t k. ⊎_elim (λ e. subst (IsTaken ss nodes (i + 1)) e this_taken) (λ k. taken_still t (w.from t k)) k;
     all = λ t taken. was_taken t taken (last_or taken.place taken.before);
   }
@@ -336,10 +339,10 @@ module _ (ss : List Step) (nodes : List ℕ) (can : CanWalk ss nodes) (M : Types
 
 -- and the types are a typing of the VI
 pub walk_typed : (called : Callees) (panel : List PanelItem) (es : List Entry) (nodes : List ℕ) (M : Types)
-    → CanWalk (vi_steps called panel es) nodes → HasWalked (vi_steps called panel es) nodes (length nodes) M → Typed called panel es M
+    → CanWalk (made_steps called panel es) nodes → HasWalked (made_steps called panel es) nodes (length nodes) M → Typed called panel es M
 walk_typed called panel es nodes M can w = record {
-  given = steps_hold called panel es M (walk_holds (vi_steps called panel es) nodes can M w);
-  no_more = λ d n none. walk_others (vi_steps called panel es) nodes can M w d n (λ g. none (subst (λ gs. IsGivenTo gs d n) (vi_gives called panel es M) g));
+  given = made_hold called panel es M (walk_holds (made_steps called panel es) nodes can M w);
+  no_more = λ d n none. walk_others (made_steps called panel es) nodes can M w d n (λ g. none (subst (λ gs. IsGivenTo gs d n) (made_gives called panel es M) g));
 }
 
 -- ---- the order
@@ -351,9 +354,9 @@ list_step called objects (f ∷ forms) zero s e = (f, refl, (let same : step_of 
 list_step called objects (f ∷ forms) (suc k) s e = list_step called objects forms k s e
 
 steps_are : (called : Callees) (objects : Objects) (panel : List PanelItem) (es : List Entry) (forms : List Form) → objects ≡ panel_type panel → forms ≡ vi_forms panel es
-    → steps_of called objects forms ≡ vi_steps called panel es
+    → steps_of called objects forms ≡ made_steps called panel es
 steps_are called objects panel es forms o f =
-    ap (λ (x : Objects). map (step_of called x) forms) o ∙ ap (λ (xs : List Form). map (step_of called (panel_type panel)) xs) f ∙ forms_are called panel es
+    ap (λ (x : Objects). map (step_of called x) forms) o ∙ ap (λ (xs : List Form). map (step_of called (panel_type panel)) xs) f
 
 has_below : (n b : ℕ) (row : List ℕ) → AllByRecursion (λ c. c < n) row → has row b ≡ true → b < n
 has_below n b [] h e = absurd cc
@@ -377,7 +380,7 @@ leaves g range a b (suc n, (c, w, q)) = leaves g range a c (n, w)
 
 module _ (called : Callees) (objects : Objects) (panel : List PanelItem) (es : List Entry) (forms : List Form) (g : Graph) (same_objects : objects ≡ panel_type panel)
     (same_forms : forms ≡ vi_forms panel es) (typable : IsTypable called panel es) (long : length g ≡ length forms) (feeding : IsFeeding forms g) where
-  same : steps_of called objects forms ≡ vi_steps called panel es
+  same : steps_of called objects forms ≡ made_steps called panel es
   same = steps_are called objects panel es forms same_objects same_forms
 
   feeds : (a b : ℕ) (s t : Step) → slice_get (steps_of called objects forms) a ≡ Some s → slice_get (steps_of called objects forms) b ≡ Some t → Feeds s t → has_edge g a b ≡ true
@@ -389,9 +392,9 @@ module _ (called : Callees) (objects : Objects) (panel : List PanelItem) (es : L
 
   pub can_walk : (nodes : List ℕ) → IsOrder g nodes → CanWalk (steps_of called objects forms) nodes
   can_walk nodes order = record {
-    local = subst AreLocal (sym same) (vi-local called panel es);
-    named = subst AreNamed (sym same) (vi_named called panel es);
-    apart = subst (λ (ss : List Step). AreApart (all_gives nothing ss)) (sym same) (subst AreApart (sym (vi_gives called panel es nothing)) typable.apart);
+    local = subst AreLocal (sym same) (all_are_local (made_steps called panel es) (made_local called panel es));
+    named = subst AreNamed (sym same) (all_are_named (made_steps called panel es) (made_named called panel es));
+    apart = subst (λ (ss : List Step). AreApart (all_gives nothing ss)) (sym same) (subst AreApart (sym (made_gives called panel es nothing)) typable.apart);
     graph = g;
     long = long ∙ sym (length-map forms (step_of called objects));
     leads = feeds;
@@ -412,7 +415,7 @@ module _ (called : Callees) (objects : Objects) (panel : List PanelItem) (es : L
   stands_at : (v : ℕ) → v < length g → slice_get (steps_of called objects forms) v ≡ Some (at v)
   stands_at v lt = slice_get-get_or (steps_of called objects forms) v idle (let len = length-map forms (step_of called objects) in omega (arith, lt, len, long))
 
-  in_all : (v : ℕ) → v < length g → IsIn (at v) (vi_steps called panel es)
+  in_all : (v : ℕ) → v < length g → IsIn (at v) (made_steps called panel es)
   in_all v lt = subst (λ (ss : List Step). IsIn (at v) ss) same (is_in (steps_of called objects forms) v (at v) (stands_at v lt))
 
   edge_feeds : (a b : ℕ) → a < length g → b < length g → has_edge g a b ≡ true → Feeds (at a) (at b)
@@ -424,16 +427,16 @@ module _ (called : Callees) (objects : Objects) (panel : List PanelItem) (es : L
 
   pub none_turns : InRange g → HasCycle g → ⊥
   none_turns range (v, l) =
-      no_cycle (vi_steps called panel es) (has_edge g) at
+      no_cycle (made_steps called panel es) (has_edge g) at
       (λ a b e. let w = edge_within g a b range e in (in_all a w.0, edge_feeds a b w.0 w.1 e))
-      typable.ready v (in_all v (leaves g range v v l)) l
+      (made_ready called panel es typable.ready) v (in_all v (leaves g range v v l)) l
 
 -- ---- the code's loops
 
 -- an inserted type
-pub inserted : (b c : Bool) (t : Ty) (o : Option Ty) → b ≡ c → cond b (Some t) o ≡ put c (Some t) o
-inserted b true t o e = ap (λ x. cond x (Some t) o) e
-inserted b false t o e = ap (λ x. cond x (Some t) o) e
+pub inserted : (b : Bool) (t : Ty) (o : Option Ty) → (if b then Some t else o) ≡ put b (Some t) o
+inserted true t o = refl
+inserted false t o = refl
 
 -- what is given without a type
 pub keeps_nothing : (b : Bool) (o : Option Ty) → o ≡ put b None o
@@ -444,6 +447,16 @@ pub after_more : {X : Type 0} (f : X → Given) (xs rest : List X) (x : X) (d : 
     → new ≡ put (is_to (f x) d n) (f x).type old → known_after (map f xs) d n old ≡ whole → known_after (map f rest) d n new ≡ whole
 after_more f xs rest x d n old new whole e is h =
     ap (known_after (map f rest) d n) is ∙ sym (ap (λ ys. known_after (map f ys) d n old) e) ∙ h
+
+pub names_more : {X : Type 0} (f : X → Given) (xs rest : List X) (x : X) (n : List ℕ) (old new whole : Option Ty) → xs ≡ x ∷ rest
+    → new ≡ put (bytes_eq (f x).name n) (f x).type old → named_after (map f xs) n old ≡ whole → named_after (map f rest) n new ≡ whole
+names_more f xs rest x n old new whole e is h =
+    ap (named_after (map f rest) n) is ∙ sym (ap (λ ys. named_after (map f ys) n old) e) ∙ h
+
+pub names_all : {X : Type 0} (f : X → Given) (xs : List X) (n : List ℕ) (known whole : Option Ty) → length xs ≡ 0
+    → named_after (map f xs) n known ≡ whole → known ≡ whole
+names_all f [] n known whole e h = h
+names_all f (x ∷ xs) n known whole e h = absurd (omega (arith, e))
 
 pub after_all : {X : Type 0} (f : X → Given) (xs : List X) (d : ℕ) (n : List ℕ) (known whole : Option Ty) → length xs ≡ 0
     → known_after (map f xs) d n known ≡ whole → known ≡ whole
@@ -468,12 +481,18 @@ module _ (called : Callees) (objects : Objects) (steps : List Made) (nodes : Lis
       let b = length-map steps seen_step in
       omega (arith, within, a, b)
 
-  pub walk_next : (M N : Types) (s : Made) → slice_get steps v ≡ Some s → IsAfter M N (form_gives called objects M (seen_step s))
+  made_at : (s : Made) → slice_get steps v ≡ Some s → slice_get (steps_of called objects (map seen_step steps)) v ≡ Some (step_of called objects (seen_step s))
+  made_at s is =
+      slice_get-map (step_of called objects) (map seen_step steps) v ∙ ap (option_map (step_of called objects)) (slice_get-map seen_step steps v ∙ ap (option_map seen_step) is)
+
+  pub fresh_next : (M : Types) (s : Made) → slice_get steps v ≡ Some s → HasWalked (steps_of called objects (map seen_step steps)) nodes i M
+      → IsFresh M (form_gives called objects M (seen_step s))
+  fresh_next M s is w = fresh (steps_of called objects (map seen_step steps)) nodes can i M w v (step_of called objects (seen_step s)) there (made_at s is)
+
+  pub walk_next : (M N : Types) (s : Made) → slice_get steps v ≡ Some s → Adds M N (form_gives called objects M (seen_step s))
       → HasWalked (steps_of called objects (map seen_step steps)) nodes i M → HasWalked (steps_of called objects (map seen_step steps)) nodes (i + 1) N
-  walk_next M N s is after w =
-      walk_on (steps_of called objects (map seen_step steps)) nodes can i M N w v (step_of called objects (seen_step s)) there
-      (slice_get-map (step_of called objects) (map seen_step steps) v ∙ ap (option_map (step_of called objects)) (slice_get-map seen_step steps v ∙ ap (option_map seen_step) is))
-      after
+  walk_next M N s is adds w =
+      walk_on (steps_of called objects (map seen_step steps)) nodes can i M w v (step_of called objects (seen_step s)) there (made_at s is) N adds
 
 some_order : (g : Graph) (o : Option (Vec ℕ Global)) (nodes : Vec ℕ Global) → o ≡ Some nodes → IfSome o (λ found. IsOrder g found.items) → IsOrder g nodes.items
 some_order g o nodes e found = let P : Option (Vec ℕ Global) → Type 0 = λ p. IfSome p (λ found. IsOrder g found.items) in subst P e found

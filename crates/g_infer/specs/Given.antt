@@ -1,4 +1,4 @@
--- What a line gives to a source, as the definitions have it.
+-- Inner: what a line gives to a source, as the definitions have it.
 use Rattle.g_typing.specs.Typing as typing
 use Rattle.g_infer.specs.declared.giving.Given.{Given}
 

@@ -1,4 +1,4 @@
--- The steps in which types are decided, each by its form.
+-- Inner: the steps in which types are decided, each by its form.
 use Rattle.std.specs.Prelude.{ℕ, ◌+◌, List, [], ◌∷◌, ◌++◌, map, Option, Some, None}
 use Rattle.g_diagram.specs.declared.node.Tunnel.{Tunnel}
 use Rattle.g_diagram.specs.declared.panel.PanelItem.{PanelItem}
@@ -14,14 +14,12 @@ pub data Form : Type 0 where
   Plain : Entry → Form
   -- the number of a loop's iteration
   Iteration : (body : ℕ) → Wire → Form
+  -- the tunnels of a case, inside all its branches
+  Branches : (outer : ℕ) → List Tunnel → List Arm → Form
   Opening : (outer inner : ℕ) → (before : Option ℕ) → List Tunnel → Form
   Closing : Entry → (inner : ℕ) → List Tunnel → Form
   FrameClosing : (outer inner : ℕ) → List Tunnel → Form
   Result : (outer number : ℕ) → List Arm → Tunnel → Form
-
-abbrev pub arms_forms : (d : ℕ) → List Tunnel → List Arm → List Form
-arms_forms d ts [] = []
-arms_forms d ts (arm ∷ arms) = Opening d arm.body None ts ∷ arms_forms d ts arms
 
 abbrev pub results_forms : (d k : ℕ) → List Arm → List Tunnel → List Form
 results_forms d k arms [] = []
@@ -38,7 +36,7 @@ abbrev pub node_forms : Entry → Kind → List Form
 node_forms e (Shows name t input) = []
 node_forms e (Write object input) = []
 node_forms e (Loop count stop iteration ts body) = Iteration body iteration ∷ border_forms e body ts
-node_forms e (Case selector ts arms) = arms_forms e.diagram ts arms ++ results_forms e.diagram 0 arms ts
+node_forms e (Case selector ts arms) = Branches e.diagram ts arms ∷ results_forms e.diagram 0 arms ts
 node_forms e (Sequence parts) = parts_forms e.diagram None parts
 node_forms e (InPlace ts body finish) = border_forms e body ts
 node_forms e (Const t literal out) = Plain e ∷ []
@@ -60,6 +58,7 @@ abbrev pub seen_step : Step → Form
 seen_step (code.Controls items) = Controls items.now
 seen_step (code.Plain e) = Plain (seen e.now)
 seen_step (code.Iteration body wire) = Iteration body wire.now
+seen_step (code.Branches outer ts arms) = Branches outer ts.now (map seen_arm arms.now)
 seen_step (code.Opening outer inner before ts) = Opening outer inner before ts.now
 seen_step (code.Closing e inner ts) = Closing (seen e.now) inner ts.now
 seen_step (code.FrameClosing outer inner ts) = FrameClosing outer inner ts.now

@@ -1,17 +1,20 @@
--- What is known of a VI's wires after steps were taken, one after another.
+-- Inner: what is known of a VI's wires after steps were taken, one after another.
 use Rattle.std.specs.Prelude.{ℕ, ◌<◌, ◌==◌, ◌≡◌, Bool, true, false, ◌&&◌, List, [], ◌∷◌, map, length, Option, Some, None, slice_get}
 use Rattle.std.specs.Str.{bytes_eq}
 use Rattle.g_types.specs.declared.ty.Ty.{Ty}
+use Rattle.g_diagram.specs.declared.node.Tunnel.{Tunnel}
 use Rattle.g_graph.specs.Graph.{Graph, has_edge}
 use Rattle.g_graph_order.specs.Order.{IsOrder}
 use Rattle.g_typing.specs.Types.{Types}
-use Rattle.g_typing.specs.Typing.{Given, Callees, Objects}
+use Rattle.g_typing.specs.Typing.{Given, Callees, Objects, IsGivenTo, lines_inside}
 use Rattle.g_typing.proofs.Unique.{Step, AreLocal}
 use Rattle.g_typing.proofs.Only.{IsIn, all_gives}
 use Rattle.g_typing.proofs.Names.{AreNamed}
 use Rattle.g_typing.proofs.Ready.{Feeds}
 use Rattle.g_typing.proofs.Roles.{nothing}
 use Rattle.g_typing.proofs.Walked.{AreApart, Walked}
+use Rattle.g_rules_types.specs.Known.{Scope}
+use Rattle.g_rules_types.specs.Panels.{found}
 use Rattle.g_infer.specs.Gives.{step_of}
 use Rattle.g_infer.specs.Steps.{Form}
 
@@ -29,6 +32,20 @@ put false t known = known
 abbrev pub known_after : List Given → (diagram : ℕ) → (name : List ℕ) → (known : Option Ty) → Option Ty
 known_after [] d n known = known
 known_after (g ∷ gs) d n known = known_after gs d n (put (is_to g d n) g.type known)
+
+-- the same by names alone, whatever the diagrams
+abbrev pub named_after : List Given → (name : List ℕ) → (known : Option Ty) → Option Ty
+named_after [] n known = known
+named_after (g ∷ gs) n known = named_after gs n (put (bytes_eq g.name n) g.type known)
+
+-- what the tunnels of a case give to names, in diagram 0 as in any other
+abbrev pub IsScope : Types → (outer : ℕ) → List Tunnel → Scope → Type 0
+IsScope M d ts scope = (n : List ℕ) → found scope n ≡ named_after (lines_inside M d 0 None ts) n None
+
+-- no name is given twice, and none had a type
+pub record IsFresh (M : Types) (gs : List Given) : Type 0 where
+  pub apart : AreApart gs
+  pub unknown : (d : ℕ) (n : List ℕ) → IsGivenTo gs d n → M d n ≡ None
 
 -- the types after a step that gives this
 abbrev pub IsAfter : (old new : Types) → List Given → Type 0

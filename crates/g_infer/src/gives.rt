@@ -11,7 +11,8 @@ ghost use Rattle.g_rules_types.specs.Panels.{callees_in, objects_in};
 ghost use Rattle.g_infer.specs.Steps.{seen_step};
 
 use crate::giving::{
-    Given, has_rows, push, push_controls, push_inside, push_node, push_outside, push_result, whole,
+    Given, has_rows, push, push_arms, push_controls, push_inside, push_node, push_outside,
+    push_result, whole,
 };
 use crate::steps::Step;
 use g_diagram::Tunnel;
@@ -52,6 +53,9 @@ pub fn push_gives<'p, 'm>(
         Step::Controls(items) => push_controls(alloc, givens, items),
         Step::Plain(entry) => push_node(alloc, givens, panels, objects, types, entry),
         Step::Iteration { body, wire } => push(givens, body, wire, Some(whole())),
+        Step::Branches { outer, lines, arms } => {
+            push_arms(alloc, givens, types, outer, lines, arms)
+        }
         Step::Opening {
             outer,
             inner,

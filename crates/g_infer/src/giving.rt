@@ -487,7 +487,7 @@ fn push_loop<'m>(
 }
 
 /// What a case's tunnels give in each branch.
-fn push_arms<'m>(
+pub fn push_arms<'m>(
     alloc: Global,
     givens: &mut Vec<Given<'m>>,
     types: &WireTypes<'m>,

@@ -12,11 +12,11 @@ ghost use Rattle.g_typing.specs.Breaks.{breaks_with};
 ghost use Rattle.g_typing.specs.Typing.{called_panel, panel_type};
 ghost use Rattle.g_wires.specs.Breaks.{IsWiring};
 ghost use Rattle.g_infer.specs.Answer.{IsTyped, Refuses, types_in};
-ghost use Rattle.g_infer.specs.Inferred.{Inferred};
+ghost use Rattle.g_infer.specs.Inferred.{Inferred, told_branch, told_case, told_source};
 ghost use Rattle.g_rules_types.specs.Known.{types_of};
 ghost use Rattle.g_rules_types.specs.Panels.{callees_in, objects_in};
 
-use crate::typed::{InferRefused, SourceType, Typed, ViTypes};
+use crate::typed::{BranchCases, CaseTypes, InferRefused, NamedType, SourceType, Typed, ViTypes};
 use crate::walk::vi_types;
 use g_diagram::{Break, Hierarchy, PanelItem, Vi};
 use g_diagram_table::Entry;
@@ -26,22 +26,76 @@ use g_rules_breaks::listed;
 use g_rules_types::panels::{ObjectTypes, Panels, object_types, panels};
 use g_rules_types::passes::push_type_breaks;
 use g_rules_types::places::next;
-use g_rules_types::types::WireTypes;
-use g_types::Name;
+use g_rules_types::types::{Branches, Scope, WireTypes};
+use g_types::{Name, Ty};
 use g_typing_laws::typable_laws;
 use std::alloc::{AllocError, Global};
+use std::collections::BTreeMap;
 
-/// The types as they are told.
-fn listed_types<'a>(alloc: Global, types: WireTypes<'a>) -> Result<ViTypes, AllocError>
-    ensures { IfOk result (λ found. (d : ℕ) (name : TheList ℕ) → types_in found.sources d name ≡ types_of types.entry d name) }
+fn listed_sources<'a>(
+    alloc: Global,
+    own: BTreeMap<(u32, &'a [u8]), Ty>,
+) -> Result<List<SourceType>, AllocError>
+    ensures { IfOk result (λ sources. sources ≡ map told_source own.entry.entries) }
 {
     let mut sources = Vec::new(alloc);
-    for ((diagram, name), ty) in types {
+    for ((diagram, name), ty) in own {
         let name = List::from_slice(alloc, name)?;
         sources.push(SourceType { diagram, name, ty })?;
     }
+    Ok(List::from_vec(sources))
+}
+
+fn listed_case<'a>(alloc: Global, scope: Scope<'a>) -> Result<CaseTypes, AllocError>
+    ensures { IfOk result (λ told. told ≡ told_case scope.entry) }
+{
+    let mut names = Vec::new(alloc);
+    for (name, ty) in scope {
+        let name = List::from_slice(alloc, name)?;
+        names.push(NamedType { name, ty })?;
+    }
+    Ok(CaseTypes {
+        names: List::from_vec(names),
+    })
+}
+
+fn listed_cases<'a>(alloc: Global, scopes: Vec<Scope<'a>>) -> Result<List<CaseTypes>, AllocError>
+    ensures { IfOk result (λ cases. cases ≡ map told_case scopes.entry.items) }
+{
+    let mut cases = Vec::new(alloc);
+    for scope in scopes {
+        cases.push(listed_case(alloc, scope)?)?;
+    }
+    Ok(List::from_vec(cases))
+}
+
+fn listed_branches(alloc: Global, branches: Branches) -> Result<List<BranchCases>, AllocError>
+    ensures { IfOk result (λ listed. listed ≡ map told_branch branches.entries) }
+{
+    let mut listed = Vec::new(alloc);
+    for (diagram, cases) in branches {
+        let cases = List::from_vec(cases);
+        listed.push(BranchCases { diagram, cases })?;
+    }
+    Ok(List::from_vec(listed))
+}
+
+/// The types as they are told.
+fn listed_types<'a>(alloc: Global, types: WireTypes<'a>) -> Result<ViTypes, AllocError>
+    ensures { IfOk result (λ found. (d : ℕ) (name : TheList ℕ) → types_in found d name ≡ types_of types.entry d name) }
+{
+    let WireTypes {
+        own,
+        cases,
+        branches,
+    } = types;
+    let sources = listed_sources(alloc, own)?;
+    let cases = listed_cases(alloc, cases)?;
+    let branches = listed_branches(alloc, branches)?;
     Ok(ViTypes {
-        sources: List::from_vec(sources),
+        sources,
+        cases,
+        branches,
     })
 }
 
@@ -57,8 +111,8 @@ fn infer_wires<'p, 'm>(
 ) -> Result<ViTypes, AllocError>
     requires objects { objects_in objects.now ≡ panel_type panel.now }
     requires typable { IsTypable (callees_in panels.now) panel.now (map seen entries.now) }
-    ensures typing { IfOk result (λ found. IsTypingBy (callees_in panels.now) panel.now (map seen entries.now) (types_in found.sources)) }
-    ensures breaks { IfOk result (λ found. breaks.new.items ≡ breaks.old.items ++ breaks_with (callees_in panels.now) panel.now (types_in found.sources) number (map seen entries.now)) }
+    ensures typing { IfOk result (λ found. IsTypingBy (callees_in panels.now) panel.now (map seen entries.now) (types_in found)) }
+    ensures breaks { IfOk result (λ found. breaks.new.items ≡ breaks.old.items ++ breaks_with (callees_in panels.now) panel.now (types_in found) number (map seen entries.now)) }
 {
     let types = vi_types(alloc, panels, objects, panel, entries)?;
     push_type_breaks(
@@ -77,8 +131,8 @@ fn infer_vi<'p>(
     breaks: &mut Vec<Break>,
 ) -> Result<ViTypes, AllocError>
     requires { IsTypable (callees_in panels.now) vi.now.panel (entries_of vi.now) }
-    ensures typing { IfOk result (λ found. IsTypingBy (callees_in panels.now) vi.now.panel (entries_of vi.now) (types_in found.sources)) }
-    ensures breaks { IfOk result (λ found. breaks.new.items ≡ breaks.old.items ++ breaks_with (callees_in panels.now) vi.now.panel (types_in found.sources) number (entries_of vi.now)) }
+    ensures typing { IfOk result (λ found. IsTypingBy (callees_in panels.now) vi.now.panel (entries_of vi.now) (types_in found)) }
+    ensures breaks { IfOk result (λ found. breaks.new.items ≡ breaks.old.items ++ breaks_with (callees_in panels.now) vi.now.panel (types_in found) number (entries_of vi.now)) }
 {
     let panel = vi.panel.as_slice();
     let objects = object_types(alloc, panel)?;

@@ -10,4 +10,4 @@ mod steps;
 mod typed;
 mod walk;
 
-pub use typed::{InferRefused, SourceType, Typed, ViTypes};
+pub use typed::{BranchCases, CaseTypes, InferRefused, NamedType, SourceType, Typed, ViTypes};

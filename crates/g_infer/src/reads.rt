@@ -354,6 +354,7 @@ fn push_reads<'m>(reads: &mut Vec<Read<'m>>, step: Step<'m>) -> Result<(), Alloc
     match step {
         Step::Controls(_) | Step::Iteration { .. } => Ok(()),
         Step::Plain(entry) => push_node(reads, entry),
+        Step::Branches { outer, lines, .. } => push_inside(reads, outer, None, lines),
         Step::Opening {
             outer,
             before,

@@ -23,6 +23,12 @@ pub enum Step<'a> {
         body: u32,
         wire: &'a Wire,
     },
+    /// What the tunnels of a case give in each of its branches.
+    Branches {
+        outer: u32,
+        lines: &'a [Tunnel],
+        arms: &'a [Arm<'a>],
+    },
     /// What border lines give inside; `before` is the diagram of the frame before.
     Opening {
         outer: u32,
@@ -49,25 +55,6 @@ pub enum Step<'a> {
         arms: &'a [Arm<'a>],
         tunnel: &'a Tunnel,
     },
-}
-
-fn push_arms<'m>(
-    steps: &mut Vec<Step<'m>>,
-    outer: u32,
-    lines: &'m [Tunnel],
-    arms: &'m [Arm<'m>],
-) -> Result<(), AllocError>
-    ensures { OnOk result (map seen_step steps.new.items ≡ map seen_step steps.old.items ++ spec.arms_forms outer lines.now (map seen_arm arms.now)) }
-{
-    for arm in arms {
-        steps.push(Step::Opening {
-            outer,
-            inner: arm.body,
-            before: None,
-            lines,
-        })?;
-    }
-    Ok(())
 }
 
 fn push_results<'m>(
@@ -188,9 +175,9 @@ fn push_case<'m>(
     arms: &'m [Arm<'m>],
 ) -> Result<(), AllocError>
     ensures { OnOk result (map seen_step steps.new.items
-        ≡ map seen_step steps.old.items ++ (spec.arms_forms outer lines.now (map seen_arm arms.now) ++ spec.results_forms outer 0 (map seen_arm arms.now) lines.now)) }
+        ≡ map seen_step steps.old.items ++ (spec.Branches outer lines.now (map seen_arm arms.now) ∷ spec.results_forms outer 0 (map seen_arm arms.now) lines.now)) }
 {
-    push_arms(steps, outer, lines, arms)?;
+    steps.push(Step::Branches { outer, lines, arms })?;
     push_results(steps, outer, arms, lines)?;
     Ok(())
 }

@@ -1,5 +1,6 @@
 pub mod Branches
 pub mod Calls
+pub mod Kept
 pub mod Loops
 pub mod PanelLemmas
 pub mod Sweeping

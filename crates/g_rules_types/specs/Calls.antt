@@ -1,4 +1,4 @@
--- The inputs of a call by the panel of the VI that it calls.
+-- Inner: the inputs of a call by the panel of the VI that it calls.
 use Rattle.std.specs.Prelude.{ℕ, ◌+◌, List, [], ◌++◌, Option, Some, None}
 use Rattle.g_types.specs.declared.ty.Ty.{Ty}
 use Rattle.g_diagram.specs.declared.place.Place.{Place}

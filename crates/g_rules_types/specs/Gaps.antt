@@ -1,4 +1,4 @@
--- Numbers that lie in none of some intervals.
+-- Inner: numbers that lie in none of some intervals.
 use Rattle.std.specs.Prelude.{ℤ, ◌≡◌, Bool, true, false, ◌&&◌, List, int_le, int_lt}
 use Rattle.std.specs.List.{list_any}
 use Rattle.std.specs.declared.cmp.Ordering.{Ordering}

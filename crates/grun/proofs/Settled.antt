@@ -177,8 +177,8 @@ right_literals h typed types number vi stands = by (slice_get typed.vis number) 
     by : (o : Option ViTypes) → HasTyping h.vis vi o → panel_mistakes number 1 vi.panel ≡ []
     by None none = absurd none
     by (Some found) is =
-        no_mistake h number vi stands (types_in found.sources) is.typing types.unbroken (panel_mistakes number 1 vi.panel)
-        (nodes_mistake (types_in found.sources) number (entries_of vi)) (mistakes_of number 1 vi.panel) refl
+        no_mistake h number vi stands (types_in found) is.typing types.unbroken (panel_mistakes number 1 vi.panel)
+        (nodes_mistake (types_in found) number (entries_of vi)) (mistakes_of number 1 vi.panel) refl
 
 pub controls_right : (h : Hierarchy) (main : List ℕ) (number : ℕ) → IsReady h main number → (vi : Vi) → slice_get h.vis number ≡ Some vi → (settings : List Setting) (vs : Named Value) → Give (controls vi.panel) [] settings vs
     → AreControls h number (control_values vi.panel vs)

@@ -2,8 +2,11 @@ use Rattle.std.proofs.Common.{◌≡◌, ℕ, List, length, map, arith}
 use Rattle.std.proofs.lemmas.List.{length-map}
 use Rattle.g_infer.specs.declared.steps.Step.{Step}
 use Rattle.g_infer.specs.Steps.{seen_step}
-use Rattle.g_infer.proofs.FeedLemmas.{all_rows, feeding, in_range}
+use Rattle.g_infer.proofs.FeedLemmas.{all_rows, both_same, feeding, in_range}
 use Rattle.g_infer.proofs.feeds.step_graph.Goals as goal
+
+pub step_row-requires : goal.step_row-requires
+step_row-requires c = both_same (map seen_step c.args.steps.now) c.in_ok-readers.readers c.in_ok-readers.ensures
 
 pub returns-clause-range : goal.returns-clause-range
 returns-clause-range c =

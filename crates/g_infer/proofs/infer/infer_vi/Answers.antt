@@ -20,8 +20,8 @@ returns c =
     let es : List Entry = map seen c.as_slice.result.now in
     let same : es ≡ entries_of c.args.vi.now = ap (map seen) c.as_slice.ensures.value ∙ c.in_ok-entries.ensures in
     record {
-      typing = typing_at (callees_in c.args.panels.now) c.as_slice-panel.result.now c.args.vi.now.panel es (entries_of c.args.vi.now) (types_in c.in_ok-found.found.sources) c.as_slice-panel.ensures same
+      typing = typing_at (callees_in c.args.panels.now) c.as_slice-panel.result.now c.args.vi.now.panel es (entries_of c.args.vi.now) (types_in c.in_ok-found.found) c.as_slice-panel.ensures same
           c.in_ok-found.ensures.typing;
-      breaks = breaks_at (callees_in c.args.panels.now) c.as_slice-panel.result.now c.args.vi.now.panel es (entries_of c.args.vi.now) (types_in c.in_ok-found.found.sources) c.args.number c.args.breaks.now.items
+      breaks = breaks_at (callees_in c.args.panels.now) c.as_slice-panel.result.now c.args.vi.now.panel es (entries_of c.args.vi.now) (types_in c.in_ok-found.found) c.args.number c.args.breaks.now.items
           c.infer_wires.new.breaks.items c.as_slice-panel.ensures same c.in_ok-found.ensures.breaks;
     }

@@ -1,14 +1,6 @@
-use Rattle.std.proofs.Common.{◌≡◌, ◌++◌, List, [], map, sym, ap, ◌∙◌}
-use Rattle.std.proofs.lemmas.List.{append-nil}
-use Rattle.std.proofs.lemmas.Map.Iter.{rest_all}
-use Rattle.g_infer.specs.declared.typed.SourceType.{SourceType}
-use Rattle.g_infer.specs.Inferred.{told_source}
-use Rattle.g_infer.proofs.InferLemmas.{TableEntry, types_told}
+use Rattle.g_infer.proofs.InferLemmas.{types_told}
 use Rattle.g_infer.proofs.infer.listed_types.Goals as goal
 
 pub returns : goal.returns
 returns c = λ d name.
-    let sources : List SourceType = c.loop-diagram.sources.items in
-    let end : c.loop-diagram.diagram-iterator ≡ [] = rest_all (λ (e : TableEntry). e) c.loop-diagram.diagram-iterator c.next.new.self c.next.result c.in-None.is c.next.ensures.steps in
-    types_told c.args.types c.from_vec.result
-    (c.from_vec.ensures ∙ sym (append-nil sources) ∙ ap (λ (es : List TableEntry). sources ++ map told_source es) (sym end) ∙ c.loop-diagram.invariant) d name
+    types_told c.args.types (record { sources = c.in_ok-sources.sources; cases = c.in_ok-cases.cases; branches = c.in_ok-branches.branches }) c.in_ok-sources.ensures c.in_ok-cases.ensures c.in_ok-branches.ensures d name

@@ -3,14 +3,14 @@ use Rattle.std.specs.Prelude.{Option, Some, Vec}
 use Rattle.std.specs.declared.alloc.Global.{Global}
 use Rattle.g_graph.specs.Graph.{has, row_of}
 use Rattle.g_graph.proofs.Search.{has_push}
-use Rattle.g_wires.proofs.NumberLemmas.{is_key}
-use Rattle.g_infer.specs.Feeding.{Readers}
+use Rattle.g_rules_types.proofs.Kept.{is_key}
+use Rattle.g_infer.specs.Feeding.{ByName}
 use Rattle.g_infer.proofs.FeedLemmas.{kept_for, put_back, reader_added}
-use Rattle.g_infer.proofs.feeds.add_reader.Goals as goal
+use Rattle.g_infer.proofs.feeds.add_to_name.Goals as goal
 
 pub returns : goal.returns
 returns c =
-    let old : Readers = c.args.readers.now in
+    let old : ByName = c.args.readers.now in
     let d : ℕ = c.args.read.diagram in
     let name : List ℕ = c.args.read.name.now in
     let v : Vec ℕ Global = c.push.new.self in
