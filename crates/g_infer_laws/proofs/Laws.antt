@@ -19,11 +19,11 @@ own_at [] k vi all at = absurd (let no : None ≡ Some vi = at in cc)
 own_at (v ∷ vis) zero vi all at = subst HasOwnLines (same_Some v vi at) (All-head HasOwnLines v vis all)
 own_at (v ∷ vis) (suc k) vi all at = own_at vis k vi (All-tail HasOwnLines v vis all) at
 
-told : (h : Hierarchy) (vi : Vi) (o : Option ViTypes) (found : ViTypes) → o ≡ Some found → HasTyping h.vis vi o → IsTyping h.vis vi (types_in found.sources)
+told : (h : Hierarchy) (vi : Vi) (o : Option ViTypes) (found : ViTypes) → o ≡ Some found → HasTyping h.vis vi o → IsTyping h.vis vi (types_in found)
 told h vi None found same has = absurd has
-told h vi (Some f) found same has = subst (λ (x : ViTypes). IsTyping h.vis vi (types_in x.sources)) (same_Some f found same) has.typing
+told h vi (Some f) found same has = subst (λ (x : ViTypes). IsTyping h.vis vi (types_in x)) (same_Some f found same) has.typing
 
 pub each_read_wire_typed : EachReadWireTyped
 each_read_wire_typed bytes h main typed listing wiring is k vi found stands there =
-    each_wire_typed h main wiring is.unbroken k vi (types_in found.sources) stands (own_at h.vis k vi (reads_own_lines bytes h listing) stands)
+    each_wire_typed h main wiring is.unbroken k vi (types_in found) stands (own_at h.vis k vi (reads_own_lines bytes h listing) stands)
     (told h vi (slice_get typed.vis k) found there (is.each k vi stands))

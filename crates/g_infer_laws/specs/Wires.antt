@@ -34,4 +34,4 @@ EachWireTyped = (h : Hierarchy) (main : List ℕ) → IsWiring h main [] → ((b
 -- and so it is for a listing by the types that are told
 abbrev pub EachReadWireTyped : Type 0
 EachReadWireTyped = (bytes : List ℕ) (h : Hierarchy) (main : List ℕ) (typed : Typed) → IsListing bytes h → IsWiring h main [] → IsTyped h typed
-    → (k : ℕ) (vi : Vi) (found : ViTypes) → slice_get h.vis k ≡ Some vi → slice_get typed.vis k ≡ Some found → IsAllTyped h.vis vi (types_in found.sources)
+    → (k : ℕ) (vi : Vi) (found : ViTypes) → slice_get h.vis k ≡ Some vi → slice_get typed.vis k ≡ Some found → IsAllTyped h.vis vi (types_in found)
