@@ -37,7 +37,13 @@ awk 'BEGIN {
     for (k = 1; k < 69; k++) print "vi V" k " preallocated\ncall V" k + 1 "\ncall V" k + 1 "\nend"
     print "vi V69 preallocated\nend"
 }' >"$work/doubled.g"
-for listing in nodes consumers chain selectors branches doubled; do
+awk 'BEGIN {
+    print "glisting 1\nvi Main\ncontrol a i32 -> a\ncase a"
+    for (k = 1; k <= 10000; k++) print "tunnel a -> t" k
+    for (k = 1; k <= 10000; k++) print "when " k "\ninc t" k " -> _"
+    print "when default\nend\nend"
+}' >"$work/tunnels.g"
+for listing in nodes consumers chain selectors branches doubled tunnels; do
     begin=$(date +%s.%N)
     answer=$("$program" check Main <"$work/$listing.g") || true
     finish=$(date +%s.%N)
