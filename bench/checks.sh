@@ -1,6 +1,7 @@
 #!/bin/sh
 # Makes large listings and times how `check` answers each: 65,536 nodes in one diagram, 60,000 consumers of one name, 20,000 VIs in a chain of
-# calls, a case with 100,000 selectors on one `when` line and one with as many `when` lines, and 70 VIs that each call the next twice.
+# calls, a case with 100,000 selectors on one `when` line and one with as many `when` lines, 70 VIs that each call the next twice, and a
+# case with 10,000 tunnels and as many branches, each of which uses one tunnel.
 # Usage: bench/checks.sh [PROGRAM]
 set -eu
 here=$(CDPATH= cd -- "$(dirname -- "$0")/.." && pwd)
