@@ -1,0 +1,5 @@
+pub mod Readers
+pub mod Lines
+pub mod Loops
+pub mod Cases
+pub mod Bodies
