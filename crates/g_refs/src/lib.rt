@@ -1,0 +1,6 @@
+//! Values that references name.
+#![tactic(auto)]
+
+mod cell;
+
+pub use cell::Cell;
