@@ -1,12 +1,9 @@
 -- The cells of a panel, by whether the number is a control's.
-use Rattle.std.proofs.Common.{◌≡◌, ◌<◌, ◌≤◌, ◌-◌, ℕ, List, get_or, length, refl, sym, ap, subst}
+use Rattle.std.proofs.Common.{◌≡◌, ◌<◌, ◌≤◌, ◌-◌, ℕ, List, get_or, length, refl, ap}
 use Rattle.std.specs.Prelude.{Some, slice_get, slice_set, if◌then◌else◌}
-use Rattle.std.specs.List.{All}
 use Rattle.std.proofs.lemmas.Bool.{le-ltb, lt-ltb}
-use Rattle.std.proofs.lemmas.List.Elements.{All-get_or, All-same, All-set}
 use Rattle.std.proofs.lemmas.Option.{slice_get_read}
 use Rattle.g_values.specs.declared.value.Value.{Value}
-use Rattle.g_values.specs.Proper.{IsProper}
 use Rattle.g_shared.specs.Panels.{PanelState, cell_at, with_cell}
 
 pub cell_of_control : (p : PanelState) (k : ℕ) → k < length p.controls → cell_at p k ≡ slice_get p.controls k
@@ -26,14 +23,8 @@ pub with_indicator : (p : PanelState) (k : ℕ) (v : Value) → length p.control
 unfolding with_either
 with_indicator p k v more = ap (λ b. if b then (with_either p k v).0 else (with_either p k v).1) (le-ltb k (length p.controls) more)
 
--- a value that is read, and all where one was set
+-- a value that is read
 pub read_at : (xs : List Value) (k : ℕ) (v : Value) → k < length xs → v ≡ get_or xs k v → slice_get xs k ≡ Some v
 read_at xs k v less is = slice_get_read xs (length xs) k v refl less is
-
-pub proper_at : (xs : List Value) (k : ℕ) (v : Value) → k < length xs → v ≡ get_or xs k v → All IsProper xs → IsProper v
-proper_at xs k v less is all = subst IsProper (sym is) (All-get_or IsProper xs k v less all)
-
-pub proper_set : (xs ys : List Value) (k : ℕ) (v : Value) → ys ≡ slice_set xs k v → IsProper v → All IsProper xs → All IsProper ys
-proper_set xs ys k v is proper all = All-same IsProper ys (slice_set xs k v) is (All-set IsProper xs k v proper all)
 
 pub ruleset cells = (cell_of_control, cell_of_indicator, with_control, with_indicator, read_at)

@@ -58,10 +58,6 @@ live_at false m e = absurd cc
 pub live_is : (q : QueueState) (n : ℕ) → is_some (live_items q n) ≡ true → live_items q n ≡ q.items
 live_is q n e = live_at (n == q.serial) q.items e
 
-pub items_are : (m : Option (List Value)) → is_some m ≡ true → m ≡ Some (items_in m)
-items_are None e = absurd cc
-items_are (Some items) e = refl
-
 pub obtain_live : (q : QueueState) (m : Option (List Value)) → is_some m ≡ true → obtain q m ≡ gives (queue_ref q ∷ []) q
 obtain_live q None e = absurd cc
 obtain_live q (Some items) e = refl
