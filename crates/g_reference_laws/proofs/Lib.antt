@@ -1,0 +1,5 @@
+pub mod Held
+pub mod Plain
+pub mod PlainLiterals
+pub mod Outputs
+mod Examples
