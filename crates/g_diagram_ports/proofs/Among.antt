@@ -1,9 +1,10 @@
 -- Ports in lists, and the tunnels among them.
 use Rattle.std.proofs.Common.{◌≡◌, ◌⊎◌, inl, inr, ⊎_elim, ℕ, ◌+◌, ◌≤◌, ◌==◌, Bool, true, false, List, [], ◌∷◌, ◌++◌, refl, ap, sym, ◌∙◌, subst, arith}
 use Rattle.std.specs.Prelude.{if◌then◌else◌, Option, Some, None}
+use Rattle.std.specs.List.{list_any}
 use Rattle.std.specs.Option.{option_or}
 use Rattle.std.specs.Str.{bytes_eq}
-use Rattle.std.proofs.lemmas.Bool.{and_from, and_parts}
+use Rattle.std.proofs.lemmas.Bool.{and_from, and_parts, or_left, or_right}
 use Rattle.std.proofs.lemmas.Slice.Eq.{bytes_eq-Decides}
 use Rattle.g_diagram.specs.declared.node.Tunnel.{Tunnel}
 use Rattle.g_diagram.specs.Lines.{Wire}
@@ -22,6 +23,13 @@ among_right p (x ∷ xs) ys h = inr (among_right p xs ys h)
 pub among_either : (p : Port) (xs ys : List Port) → IsAmong p (xs ++ ys) → IsAmong p xs ⊎ IsAmong p ys
 among_either p [] ys h = inr h
 among_either p (x ∷ xs) ys h = ⊎_elim (λ e. inl (inl e)) (λ r. ⊎_elim (λ l. inl (inr l)) inr (among_either p xs ys r)) h
+
+-- a test that one of some ports passes
+pub is_had : (test : Port → Bool) (ps : List Port) (p : Port) → IsAmong p ps → test p ≡ true → list_any test ps ≡ true
+is_had test [] p among h = absurd among
+is_had test (q ∷ ps) p among h = ⊎_elim
+    (λ e. let P : Port → Type 0 = λ x. test x ≡ true in or_left (test q) (list_any test ps) (subst P (sym e) h))
+    (λ r. or_right (test q) (list_any test ps) (is_had test ps p r h)) among
 
 -- a tunnel stands on a line, with what it gives inside
 abbrev pub IsHere : (here : ℕ) → Option Wire → (line : ℕ) → Wire → Type 0

@@ -5,3 +5,4 @@ pub mod BranchLemmas
 pub mod Among
 pub mod Cases
 pub mod Stands
+mod Examples

@@ -57,15 +57,6 @@ pub put_back : {X : Type 0} (k : Bool) (v : X) (o : Option X) → cond k (Some v
 put_back true v o = refl
 put_back false v o = refl
 
--- the readers of a name, appended to a row
-
-pub none_appended : (m : ByName) (d : ℕ) (name : List ℕ) (o : Option (Vec ℕ Global)) (row : List ℕ) (b : ℕ) → o ≡ kept_for m d name → o ≡ None → has row b ≡ (has row b || is_reader m d name b)
-none_appended m d name o row b e f = sym (or_false (has row b)) ∙ ap (λ p. has row b || has (row_of p) b) (sym f ∙ e)
-
-pub all_appended : (m : ByName) (d : ℕ) (name : List ℕ) (v : Vec ℕ Global) (row new : List ℕ) (b : ℕ) → Some v ≡ kept_for m d name → new ≡ row ++ v.items → has new b ≡ (has row b || is_reader m d name b)
-all_appended m d name v row new b e f =
-    ap (λ xs. has xs b) f ∙ list_any-append (λ c. c == b) row v.items ∙ ap (λ p. has row b || has (row_of p) b) e
-
 -- a reader more in its diagram
 in_its_diagram : (r : Reader) (rs : List Reader) (other : List ℕ) (b : ℕ) → reads_some (λ n. bytes_eq n other) (rs ++ r ∷ []) b ≡ (reads_some (λ n. bytes_eq n other) rs b || (bytes_eq r.name.now other && (r.step == b)))
 in_its_diagram r rs other b =
@@ -105,9 +96,6 @@ pub names_at : {X : Type 0} (F : List X → Bool) (p : X → Bool) (xs : List X)
     → (new || (F (drop (i + 1) xs) && s)) ≡ whole
 names_at F p xs i d new old s whole lt step e h =
     names_more F (p (get_or xs i d)) xs i (get_or xs i d) new old s whole lt (get_or_default xs i d (get_or xs i d) lt) (step (get_or xs i d) (drop (i + 1) xs)) e h
-
-pub names_end : {X : Type 0} (F : List X → Bool) (xs : List X) (i : ℕ) (a s whole : Bool) → length xs ≤ i → F [] ≡ false → (a || (F (drop i xs) && s)) ≡ whole → a ≡ whole
-names_end F xs i a s whole le none h = sym (or_false a) ∙ ap (λ b. a || (b && s)) (sym (at_drop_all F xs i le ∙ none)) ∙ h
 
 -- the same of a test alone
 pub tests_more : {X : Type 0} (F : List X → Bool) (G : List X → Bool) (p : Bool) (xs : List X) (i : ℕ) (x : X) (new old whole : Bool) → i < length xs → x ≡ get_or xs i x

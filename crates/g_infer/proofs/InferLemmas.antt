@@ -276,10 +276,6 @@ has_contained bs b h = Contains-from_any same_break b bs h
 contained_has : (bs : List Break) (b : Break) → Contains bs b → has_break bs b ≡ true
 contained_has bs b h = list_any-from_Contains (eq_by_cmp_equiv break_total) b bs h
 
-pub none_left : (bs : List Break) → length bs ≤ 0 → bs ≡ []
-none_left [] le = refl
-none_left (b ∷ bs) le = absurd (omega (arith, le))
-
 -- ---- the hierarchy
 
 abbrev pub NoneTurn : Hierarchy → Type 0

@@ -1,4 +1,5 @@
 pub mod Branching
+mod Examples
 pub mod FeedLemmas
 pub mod FormLemmas
 pub mod GivenNames

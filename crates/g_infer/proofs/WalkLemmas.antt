@@ -32,7 +32,7 @@ use Rattle.g_infer.specs.Feeding.{IsFeeding}
 use Rattle.g_infer.specs.declared.steps.Step.{Step as Made}
 use Rattle.g_infer.specs.Gives.{form_gives, step_of}
 use Rattle.g_infer.specs.Steps.{Form, seen_step, vi_forms}
-use Rattle.g_infer.specs.Walking.{is_to, put, known_after, named_after, IsAfter, IsFresh, steps_of, CanWalk, IsTaken, HasWalked}
+use Rattle.g_infer.specs.Walking.{is_to, put, known_after, IsAfter, IsFresh, steps_of, CanWalk, IsTaken, HasWalked}
 use Rattle.g_infer.proofs.FormLemmas.{made_steps, made_gives, made_local, made_named, made_ready, made_hold}
 
 -- ---- what a step gives is added to the types
@@ -437,31 +437,6 @@ module _ (called : Callees) (objects : Objects) (panel : List PanelItem) (es : L
 pub inserted : (b : Bool) (t : Ty) (o : Option Ty) → (if b then Some t else o) ≡ put b (Some t) o
 inserted true t o = refl
 inserted false t o = refl
-
--- what is given without a type
-pub keeps_nothing : (b : Bool) (o : Option Ty) → o ≡ put b None o
-keeps_nothing true o = refl
-keeps_nothing false o = refl
-
-pub after_more : {X : Type 0} (f : X → Given) (xs rest : List X) (x : X) (d : ℕ) (n : List ℕ) (old new whole : Option Ty) → xs ≡ x ∷ rest
-    → new ≡ put (is_to (f x) d n) (f x).type old → known_after (map f xs) d n old ≡ whole → known_after (map f rest) d n new ≡ whole
-after_more f xs rest x d n old new whole e is h =
-    ap (known_after (map f rest) d n) is ∙ sym (ap (λ ys. known_after (map f ys) d n old) e) ∙ h
-
-pub names_more : {X : Type 0} (f : X → Given) (xs rest : List X) (x : X) (n : List ℕ) (old new whole : Option Ty) → xs ≡ x ∷ rest
-    → new ≡ put (bytes_eq (f x).name n) (f x).type old → named_after (map f xs) n old ≡ whole → named_after (map f rest) n new ≡ whole
-names_more f xs rest x n old new whole e is h =
-    ap (named_after (map f rest) n) is ∙ sym (ap (λ ys. named_after (map f ys) n old) e) ∙ h
-
-pub names_all : {X : Type 0} (f : X → Given) (xs : List X) (n : List ℕ) (known whole : Option Ty) → length xs ≡ 0
-    → named_after (map f xs) n known ≡ whole → known ≡ whole
-names_all f [] n known whole e h = h
-names_all f (x ∷ xs) n known whole e h = absurd (omega (arith, e))
-
-pub after_all : {X : Type 0} (f : X → Given) (xs : List X) (d : ℕ) (n : List ℕ) (known whole : Option Ty) → length xs ≡ 0
-    → known_after (map f xs) d n known ≡ whole → known ≡ whole
-after_all f [] d n known whole e h = h
-after_all f (x ∷ xs) d n known whole e h = absurd (omega (arith, e))
 
 either_side : (a n : ℕ) → (a < n) ⊎ (n ≤ a)
 either_side a n = grind arith

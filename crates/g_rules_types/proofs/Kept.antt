@@ -1,8 +1,7 @@
 -- What is known of a name after more was kept.
 use Rattle.std.proofs.Common.{◌≡◌, ℕ, zero, suc, ◌+◌, ◌<◌, ◌==◌, Bool, true, false, ◌&&◌, ◌||◌, cond, List, [], ◌∷◌, ◌++◌, length, refl, sym, ap, ◌∙◌, subst, length-append, arith}
-use Rattle.std.specs.Prelude.{if◌then◌else◌, Option, Some, None, slice_get, Vec}
+use Rattle.std.specs.Prelude.{if◌then◌else◌, Option, Some, None, slice_get}
 use Rattle.std.specs.List.{AllByRecursion}
-use Rattle.std.specs.declared.alloc.Global.{Global}
 use Rattle.std.specs.declared.cmp.Ordering.{Ordering}
 use Rattle.std.specs.declared.cmp.Ordering.TheVariants.{Less, Equal, Greater}
 use Rattle.std.specs.Ordering.{ordering_then, nat_cmp, is_eq}
@@ -10,11 +9,10 @@ use Rattle.std.specs.Cmp.{unsigned_tied}
 use Rattle.std.specs.Cmp.Lexicographic.{slice_cmp}
 use Rattle.std.specs.Option.{option_or}
 use Rattle.std.specs.Str.{bytes_eq}
-use Rattle.std.proofs.lemmas.List.{append-nil}
 use Rattle.std.proofs.lemmas.Map.Text.{is_eq-slice_cmp}
 use Rattle.g_types.specs.declared.ty.Ty.{Ty}
 use Rattle.g_diagram.specs.Lines.{Arm}
-use Rattle.g_rules_types.specs.Known.{Scope, scope_type, first_type, numbers, is_branch, case_among}
+use Rattle.g_rules_types.specs.Known.{Scope, scope_type, first_type, is_branch, case_among}
 use Rattle.g_rules_types.specs.Panels.{found}
 
 -- ---- keys
@@ -37,14 +35,6 @@ key_is d name e other = is_eq-then (nat_cmp d e) (slice_cmp nat_cmp name other)
 pub own_kept : (k b : Bool) (t : Ty) (o p q : Option Ty) → q ≡ cond k (Some t) o → k ≡ b → option_or q p ≡ (if b then Some t else option_or o p)
 own_kept true b t o p q e f = ap (λ x. option_or x p) e ∙ ap (λ c. if c then Some t else option_or o p) f
 own_kept false b t o p q e f = ap (λ x. option_or x p) e ∙ ap (λ c. if c then Some t else option_or o p) f
-
--- ---- the cases of a diagram
-
--- what is taken out and put back with one more
-pub numbers_kept : (k b : Bool) (j : ℕ) (v : Vec ℕ Global) (o : Option (Vec ℕ Global)) → k ≡ b → (k ≡ true → v.items ≡ numbers o ++ j ∷ [])
-    → numbers (cond k (Some v) (cond k None o)) ≡ numbers o ++ (if b then j ∷ [] else [])
-numbers_kept true b j v o f e = e refl ∙ ap (λ c. numbers o ++ (if c then j ∷ [] else [])) f
-numbers_kept false b j v o f e = sym (append-nil (numbers o)) ∙ ap (λ c. numbers o ++ (if c then j ∷ [] else [])) f
 
 -- ---- a case more
 

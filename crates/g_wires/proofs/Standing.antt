@@ -1,5 +1,5 @@
 -- Ports that stand for all give the breaks and the wires of all.
-use Rattle.std.proofs.Common.{◌≡◌, inl, inr, ⊎_elim, ℕ, Bool, true, false, not, ◌&&◌, ◌||◌, List, [], ◌∷◌, ◌++◌, map, filter, refl, sym, ap, ◌∙◌, subst}
+use Rattle.std.proofs.Common.{◌≡◌, inl, inr, ⊎_elim, ℕ, Bool, true, false, not, ◌&&◌, ◌||◌, List, [], ◌∷◌, ◌++◌, map, filter, refl, sym, ap, ◌∙◌}
 use Rattle.std.specs.Prelude.{Option, Some, None, is_some}
 use Rattle.std.specs.List.{list_any}
 use Rattle.std.specs.Ordering.{is_eq}
@@ -7,7 +7,7 @@ use Rattle.std.proofs.lemmas.List.Folds.{list_any-append}
 use Rattle.g_diagram.specs.declared.place.Break.{Break}
 use Rattle.g_diagram.specs.Ports.{Port, are_joined, consumers, feeds, has_wire, is_before, is_node, is_wired, sources}
 use Rattle.g_diagram_ports.specs.Standing.{HasStandIn, IsAmong, IsSecond, Replaces, StandFor}
-use Rattle.g_diagram_ports.proofs.Among.{AreJoined, joined}
+use Rattle.g_diagram_ports.proofs.Among.{AreJoined, is_had, joined}
 use Rattle.g_rules_breaks.specs.Breaks.{break_cmp, has_break}
 use Rattle.g_rules_lines.specs.Spots.{break}
 use Rattle.g_wires.specs.Breaks.{named_in}
@@ -18,7 +18,7 @@ use Rattle.g_wires.specs.Spots.{spot}
 use Rattle.g_wires.specs.UnusedSources.{lacks_consumer, unused}
 use Rattle.g_wires.specs.Unwired.{is_missing, unwired}
 use Rattle.g_wires.proofs.Faithful.{same_bool}
-use Rattle.g_wires.proofs.Found.{and_both, and_left, and_right, any_filter, or_cases, or_left, or_right}
+use Rattle.g_wires.proofs.Found.{and_both, and_left, and_right, any_filter, or_cases}
 
 -- ---- tests of lists of ports
 
@@ -34,12 +34,6 @@ has_one test (p ∷ ps) h = ⊎_elim
     (λ e. record { port = p; among = inl refl; passes = e })
     (λ e. let r : Has test ps = has_one test ps e in record { port = r.port; among = inr r.among; passes = r.passes })
     (or_cases (test p) (list_any test ps) h)
-
-is_had : (test : Port → Bool) (ps : List Port) (p : Port) → IsAmong p ps → test p ≡ true → list_any test ps ≡ true
-is_had test [] p among h = absurd among
-is_had test (q ∷ ps) p among h = ⊎_elim
-    (λ e. let P : Port → Type 0 = λ x. test x ≡ true in or_left (test q) (list_any test ps) (subst P (sym e) h))
-    (λ r. or_right (test q) (list_any test ps) (is_had test ps p r h)) among
 
 any_agree : (f g : Port → Bool) (ps : List Port) → ((p : Port) → IsAmong p ps → f p ≡ g p) → list_any f ps ≡ list_any g ps
 any_agree f g [] h = refl
