@@ -1,4 +1,4 @@
--- Loops over words, eight at a time.
+-- Inner: loops over words, eight at a time.
 use Rattle.std.specs.Prelude.{ℕ, Bool, true, false, List, ◌++◌, take, drop}
 use Rattle.std.specs.Simd.Lanes.{zip2}
 use Rattle.g_types.specs.declared.rep.Rep.{Rep}

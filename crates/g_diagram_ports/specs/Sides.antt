@@ -1,4 +1,4 @@
--- Lines by the sides of a node's border.
+-- Inner: lines by the sides of a node's border.
 use Rattle.std.specs.Prelude.{ℕ, List, []}
 use Rattle.g_diagram.specs.Operands as operands
 use Rattle.g_diagram.specs.Ports as ports

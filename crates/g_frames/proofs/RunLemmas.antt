@@ -1,14 +1,14 @@
 -- Laws of every run.
 use Rattle.std.proofs.Common.{◌≡◌, Bool, true, false, ℕ, zero, suc, List, [], ◌∷◌, ◌++◌, Option, Some, None, refl, ap, sym, subst, ◌∙◌, true≢false}
-use Rattle.std.specs.Prelude.{is_some, slice_get, slice_set}
+use Rattle.std.specs.Prelude.{is_some, if◌then◌else◌, slice_get, slice_set}
 use Rattle.std.specs.Option.{option_map, option_and_then, option_map_or, option_or, option_to_list}
 use Rattle.g_values.specs.declared.value.Value.{Value}
 use Rattle.g_border.specs.declared.place.WireSource.{WireSource}
-use Rattle.g_border.specs.Readers.{Given, value_given}
+use Rattle.g_border.specs.Readers.{Given, same_source}
 use Rattle.g_frames.specs.declared.firing.Firing.{Firing}
 use Rattle.g_frames.specs.declared.state.Frame.{Frame}
 use Rattle.g_frames.specs.Program.{FlatVi, Program, vi_at}
-use Rattle.g_frames.specs.State.{FireState, with_given, sources_in}
+use Rattle.g_frames.specs.State.{FireState, with_value, with_given, sources_in}
 use Rattle.g_frames.specs.Effects.{Effect}
 use Rattle.g_frames.specs.Fire.{effect_of, can_fire, fire, fired_in, fired_frame, fired_frames, opened_frame, applied}
 use Rattle.g_frames.specs.Run.{go_on, after_from, refusing, first_refused}
@@ -54,11 +54,28 @@ allowed_not_refused p k (x ∷ xs) s h = by (can_fire p s x) (allowed_not_refuse
 same : (f : Frame) → Continues f f
 same f = record { vi = refl; space = refl; diagram = refl; opener = refl; iteration = refl; values = λ k v at. at }
 
+comes_beside : (here : Bool) (w u : Option Value) (vs us : List (Option Value)) (k : ℕ) (v : Value)
+    → ((m : ℕ) → slice_get (w ∷ vs) m ≡ Some (Some v) → slice_get (option_or w u ∷ vs) m ≡ Some (Some v))
+    → ((m : ℕ) → slice_get vs m ≡ Some (Some v) → slice_get us m ≡ Some (Some v))
+    → slice_get (w ∷ vs) k ≡ Some (Some v) → slice_get (if here then option_or w u ∷ vs else w ∷ us) k ≡ Some (Some v)
+comes_beside true w u vs us k v first rest at = first k at
+comes_beside false w u vs us zero v first rest at = at
+comes_beside false w u vs us (suc k) v first rest at = rest k at
+
+first_stays : (w u : Option Value) (vs : List (Option Value)) (v : Value) (k : ℕ) → slice_get (w ∷ vs) k ≡ Some (Some v) → slice_get (option_or w u ∷ vs) k ≡ Some (Some v)
+first_stays w u vs v zero at = ap (option_map (λ o. option_or o u)) at
+first_stays w u vs v (suc k) at = at
+
+value_stays : (qs : List WireSource) (vs : List (Option Value)) (p : WireSource) (u : Value) (v : Value) (k : ℕ)
+    → slice_get vs k ≡ Some (Some v) → slice_get (with_value qs vs p u) k ≡ Some (Some v)
+value_stays [] vs p u v k at = at
+value_stays (q ∷ qs) [] p u v k at = at
+value_stays (q ∷ qs) (w ∷ vs) p u v k at =
+    comes_beside (same_source q p) w (Some u) vs (with_value qs vs p u) k v (first_stays w (Some u) vs v) (value_stays qs vs p u v) at
+
 given_stays : (qs : List WireSource) (vs : List (Option Value)) (gs : Given) (k : ℕ) (v : Value) → slice_get vs k ≡ Some (Some v) → slice_get (with_given qs vs gs) k ≡ Some (Some v)
-given_stays [] vs gs k v at = at
-given_stays (q ∷ qs) [] gs k v at = at
-given_stays (q ∷ qs) (w ∷ vs) gs zero v at = ap (option_map (λ o. option_or o (value_given gs q))) at
-given_stays (q ∷ qs) (w ∷ vs) gs (suc k) v at = given_stays qs vs gs k v at
+given_stays qs vs [] k v at = at
+given_stays qs vs (g ∷ gs) k v at = given_stays qs (with_value qs vs g.0 g.1) gs k v (value_stays qs vs g.0 g.1 v k at)
 
 fired_continues : (p : Program) (line : ℕ) (e : Effect) (f : Frame) → Continues f (fired_frame p line e f)
 fired_continues p line e f = by (vi_at p f.vi)

@@ -11,7 +11,7 @@ use Rattle.g_diagram.specs.Lines.{Entry, Kind, Loop, Case, Sequence, nodes_of}
 use Rattle.g_diagram.specs.Ports.{Port}
 use Rattle.g_hier.specs.declared.linked.Space.{Space}
 use Rattle.g_border.specs.declared.place.WireSource.{WireSource}
-use Rattle.g_border.specs.Readers.{Reader, Given, same_source, value_given, source_of}
+use Rattle.g_border.specs.Readers.{Reader, Given, same_source, source_of}
 use Rattle.g_frames.specs.declared.firing.FrameNode.{FrameNode}
 use Rattle.g_frames.specs.declared.program.QueueName.{QueueName}
 use Rattle.g_frames.specs.declared.program.CellPlace.{CellPlace}
@@ -88,11 +88,20 @@ value_at (q ∷ qs) (v ∷ vs) p = if same_source q p then v else value_at qs vs
 abbrev pub reader_in : FlatVi → Frame → Reader
 reader_in vi f name = option_and_then (value_at (sources_in f.diagram vi.ports) f.values) (source_of vi.ports f.diagram name)
 
--- the values of sources, where more are given; one that stands stays
+-- a value comes to its source; one that stands stays
+abbrev pub with_value : List WireSource → List (Option Value) → WireSource → Value → List (Option Value)
+with_value [] vs p v = vs
+with_value (q ∷ qs) [] p v = []
+with_value (q ∷ qs) (w ∷ vs) p v = if same_source q p then option_or w (Some v) ∷ vs else w ∷ with_value qs vs p v
+
+-- the values of sources, where more are given
 abbrev pub with_given : List WireSource → List (Option Value) → Given → List (Option Value)
-with_given [] vs gs = vs
-with_given (q ∷ qs) [] gs = []
-with_given (q ∷ qs) (v ∷ vs) gs = option_or v (value_given gs q) ∷ with_given qs vs gs
+with_given qs vs [] = vs
+with_given qs vs (g ∷ gs) = with_given qs (with_value qs vs g.0 g.1) gs
+
+-- no value
+abbrev pub no_values : List WireSource → List (Option Value)
+no_values qs = map (λ q. None) qs
 
 -- what opens as a frame: a diagram of a VI in a data space, with a number among the frames of its opener and values at sources of the diagram
 pub record Opening : Type 0 where
@@ -110,7 +119,7 @@ opened opener o vi = record {
   diagram = o.diagram;
   opener = opener;
   iteration = o.iteration;
-  values = map (λ q. value_given o.gives q) (sources_in o.diagram vi.ports);
+  values = with_given (sources_in o.diagram vi.ports) (no_values (sources_in o.diagram vi.ports)) o.gives;
   nodes = map (λ e. progress.Idle) (nodes_in vi o.diagram);
 }
 

@@ -1,4 +1,4 @@
--- The graph of VIs and call lines, and the breaks that its cycles show.
+-- Inner: the graph of VIs and call lines, and the breaks that its cycles show.
 use Rattle.std.specs.Prelude.{ℕ, suc, ◌<◌, ◌==◌, Bool, true, false, ◌&&◌, ◌||◌, List, [], ◌∷◌, ◌++◌, map}
 use Rattle.g_diagram.specs.declared.place.Break.{Break}
 use Rattle.g_hier.specs.declared.linked.CallLine.{CallLine}

@@ -1,4 +1,4 @@
--- The numbers of VIs by their names.
+-- Inner: the numbers of VIs by their names.
 use Rattle.std.specs.Prelude.{ℕ, suc, List, [], ◌∷◌, if◌then◌else◌, Option, Some, None}
 use Rattle.std.specs.Str.{bytes_eq}
 use Rattle.g_diagram.specs.declared.hierarchy.Vi.{Vi}

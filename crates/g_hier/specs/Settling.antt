@@ -1,4 +1,4 @@
--- How the data spaces are counted: a VI is settled once all VIs that call it are.
+-- Inner: how the data spaces are counted: a VI is settled once all VIs that call it are.
 use Rattle.std.specs.Prelude.{ℕ, zero, suc, ◌≡◌, ◌≤◌, ◌<◌, ◌+◌, ◌*◌, ◌==◌, List, [], ◌∷◌, ◌++◌, length, slice_get, slice_index, Some}
 use Rattle.g_hier.specs.declared.linked.CallLine.{CallLine}
 use Rattle.g_hier.specs.declared.linked.Outline.{Outline}

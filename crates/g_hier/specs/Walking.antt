@@ -1,4 +1,4 @@
--- The walk along the calls: the order of data spaces in the set of those that were met, and what is still to be entered.
+-- Inner: the walk along the calls: the order of data spaces in the set of those that were met, and what is still to be entered.
 use Rattle.std.specs.Prelude.{ℕ, Bool, List, [], ◌∷◌, map, if◌then◌else◌}
 use Rattle.std.specs.Option.{option_cmp}
 use Rattle.std.specs.declared.cmp.Ordering.{Ordering}

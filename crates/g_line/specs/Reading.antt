@@ -1,4 +1,4 @@
--- Words, read from left to right.
+-- Inner: words, read from left to right.
 use Rattle.std.specs.Prelude.{◌≡◌, ◌≢◌, ℕ, ◌+◌, ◌<◌, ◌≤◌, true, false, List, ◌++◌, length, take, map, Some, slice_get}
 use Rattle.std.specs.List.{AllByRecursion, flat_map}
 use Rattle.g_types.specs.Names.{is_word}

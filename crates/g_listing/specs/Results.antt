@@ -1,4 +1,4 @@
--- Lines that are results of a case.
+-- Inner: lines that are results of a case.
 use Rattle.std.specs.Prelude.{Bool, true, false}
 use Rattle.g_diagram.specs.declared.node.Tunnel.{Tunnel}
 use Rattle.g_diagram.specs.declared.node.Tunnel.TheVariants as tunnel

@@ -1,4 +1,4 @@
--- Words taken together from the last to the first.
+-- Inner: words taken together from the last to the first.
 use Rattle.std.specs.Prelude.{ℕ, List, [], ◌∷◌}
 use Rattle.g_prims_edits.specs.Words.{on_words}
 use Rattle.g_prims_edits.specs.declared.words.Operator.{Operator}

@@ -1,4 +1,4 @@
--- What is asked of inputs.
+-- Inner: what is asked of inputs.
 use Rattle.std.specs.Prelude.{List, [], ◌∷◌}
 use Rattle.g_prims_edits.specs.Texts.{IsSortable}
 use Rattle.g_values.specs.declared.value.Value.{Value}

@@ -1,4 +1,4 @@
--- Inner: what holds of every queue, and its references.
+-- What holds of every queue, and its references.
 use Rattle.std.specs.Prelude.{ℕ, ℤ, Bool, true, false, List, [], Option, Some, None}
 use Rattle.std.specs.List.{All}
 use Rattle.g_types.specs.declared.ty.Ty.{Ty}

@@ -1,4 +1,4 @@
--- Inner: what holds of every cell, and its references.
+-- What holds of every cell, and its references.
 use Rattle.std.specs.Prelude.{ℕ, Option, Some, None}
 use Rattle.g_types.specs.declared.ty.Ty.{Ty}
 use Rattle.g_types.specs.declared.ty.Ty.TheVariants as ty

@@ -1,4 +1,4 @@
--- What the rules tell that are looked at where none of the rules 1 to 14 is broken.
+-- Inner: what the rules tell that are looked at where none of the rules 1 to 14 is broken.
 use Rattle.std.specs.Prelude.{ℕ, ◌≡◌, IsTrue, List}
 use Rattle.g_diagram.specs.declared.hierarchy.Hierarchy.{Hierarchy}
 use Rattle.g_diagram.specs.declared.place.Break.{Break}

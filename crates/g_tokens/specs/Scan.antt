@@ -1,4 +1,4 @@
--- Where a text ends, read along the bytes after its quote.
+-- Inner: where a text ends, read along the bytes after its quote.
 use Rattle.std.specs.Prelude.{◌≡◌, ◌≤◌, ◌<◌, ◌==◌, if◌then◌else◌, Bool, length, drop, ℕ, suc, ◌+◌, List, [], ◌∷◌, ◌++◌, Option, Some, None}
 use Rattle.g_tokens.specs.declared.texts.Escape.{Escape}
 use Rattle.g_tokens.specs.declared.texts.Escape.TheVariants as escape

@@ -1,4 +1,4 @@
--- What readers of arrays of numbers answer.
+-- Inner: what readers of arrays of numbers answer.
 use Rattle.std.specs.Prelude.{◌≡◌, ℤ, List, Option, IfSome, Result, Ok, Err}
 use Rattle.std.specs.Option.{option_map}
 use Rattle.std.specs.Borrow.{Bor}

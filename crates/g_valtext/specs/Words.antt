@@ -1,4 +1,4 @@
--- Numbers by the words that arrays keep.
+-- Inner: numbers by the words that arrays keep.
 use Rattle.std.specs.Prelude.{ℕ, List}
 use Rattle.std.specs.Fmt.{signed_decimal}
 use Rattle.g_types.specs.declared.rep.Rep.{Rep}

@@ -1,4 +1,4 @@
--- What the checks of one VI say, which the list of all is put together from.
+-- Inner: what the checks of one VI say, which the list of all is put together from.
 use Rattle.std.specs.Prelude.{ℕ, ◌≡◌, ◌⊎◌, ◌<◌, ◌^◌, Bool, true, ◌||◌, List, ◌++◌, length, All}
 use Rattle.g_diagram.specs.declared.place.Break.{Break}
 use Rattle.g_diagram.specs.declared.hierarchy.Vi.{Vi}

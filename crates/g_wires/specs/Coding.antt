@@ -1,4 +1,4 @@
--- Numbers of wires, and ports by them.
+-- Inner: numbers of wires, and ports by them.
 use Rattle.std.specs.Prelude.{ℕ, ◌≡◌, ◌<◌, List, Option, Some, None}
 use Rattle.std.specs.Ordering.{ordering_then, nat_cmp}
 use Rattle.std.specs.Cmp.Lexicographic.{slice_cmp}

@@ -1,4 +1,4 @@
--- The rules over ports whose wires are numbers.
+-- Inner: the rules over ports whose wires are numbers.
 use Rattle.std.specs.Prelude.{ℕ, ◌+◌, ◌==◌, nat_lt, Bool, true, false, not, ◌&&◌, ◌||◌, List, [], ◌∷◌, ◌++◌, map, filter, Option, Some, None, is_some, slice_index_or}
 use Rattle.std.specs.List.{list_any}
 use Rattle.g_diagram.specs.declared.place.Break.{Break}
