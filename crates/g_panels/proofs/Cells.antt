@@ -1,8 +1,8 @@
 -- The cells of a panel, by whether the number is a control's.
-use Rattle.std.proofs.Common.{◌≡◌, ◌<◌, ◌≤◌, ◌-◌, ℕ, List, get_or, length, refl, ap}
-use Rattle.std.specs.Prelude.{Some, slice_get, slice_set, if◌then◌else◌}
+use Rattle.std.proofs.Common.{◌≡◌, ◌<◌, ◌≤◌, ◌-◌, ℕ, length, ap, ◌∙◌}
+use Rattle.std.specs.Prelude.{slice_get, slice_set, if◌then◌else◌}
 use Rattle.std.proofs.lemmas.Bool.{le-ltb, lt-ltb}
-use Rattle.std.proofs.lemmas.Option.{slice_get_read}
+use Rattle.std.proofs.lemmas.List.{set_past}
 use Rattle.g_values.specs.declared.value.Value.{Value}
 use Rattle.g_shared.specs.Panels.{PanelState, cell_at, with_cell}
 
@@ -23,8 +23,8 @@ pub with_indicator : (p : PanelState) (k : ℕ) (v : Value) → length p.control
 unfolding with_either
 with_indicator p k v more = ap (λ b. if b then (with_either p k v).0 else (with_either p k v).1) (le-ltb k (length p.controls) more)
 
--- a value that is read
-pub read_at : (xs : List Value) (k : ℕ) (v : Value) → k < length xs → v ≡ get_or xs k v → slice_get xs k ≡ Some v
-read_at xs k v less is = slice_get_read xs (length xs) k v refl less is
+-- where there is no cell of the number nothing changes
+pub with_none : (p : PanelState) (k : ℕ) (v : Value) → length p.controls ≤ k → length p.indicators ≤ k - length p.controls → with_cell p k v ≡ p
+with_none p k v more past = with_indicator p k v more ∙ ap (λ vs. record p { indicators = vs }) (set_past p.indicators (k - length p.controls) v past)
 
-pub ruleset cells = (cell_of_control, cell_of_indicator, with_control, with_indicator, read_at)
+pub ruleset cells = (cell_of_control, cell_of_indicator, with_control, with_indicator, with_none)

@@ -1,11 +1,13 @@
 //! The panel of a data space, as a shared object.
 
-ghost use Rattle.std.specs.Prelude.{◌≡◌, ◌<◌, Some, IfOk, OnErr};
+ghost use Rattle.std.specs.Prelude.{◌≡◌, Some, is_some, IfOk, IfSome, OnErr};
 ghost use Rattle.std.specs.List.{All};
+ghost use Rattle.std.specs.Option.{option_copied};
 ghost use Rattle.g_values.specs.Proper.{IsProper};
 ghost use Rattle.g_shared.specs.declared.operations.PanelOp.TheVariants as operation;
 ghost use Rattle.g_shared.specs.Panels as spec;
 ghost use Rattle.g_shared.specs.Tried.{IfDone, IfNotYet, OnMemory};
+ghost use Rattle.g_panels.specs.Panel.{WritesProper};
 
 use g_lists::List;
 use g_shared::{PanelOp, Reply, Tried, one_value};
@@ -47,10 +49,10 @@ impl Panel {
         }
     }
 
-    /// Tries an operation. None waits. An opening leaves the indicators as they are. The copies that are made are
-    /// counted nowhere.
+    /// Tries an operation. None waits. An opening leaves the indicators as they are. Where there is no cell of a number,
+    /// `Read` gives nothing and `Write` changes nothing. The copies that are made are counted nowhere.
     pub fn try_op(&mut self, alloc: Global, op: PanelOp) -> Tried<Reply, PanelOp>
-        requires { spec.IsPanelOp self.old op }
+        requires { WritesProper op }
         ensures done { IfDone result (λ reply. spec.panel_step self.old op ≡ Some (reply, self.new)) }
         ensures never_waits { IfNotYet result (λ back. ⊥) }
         ensures memory { OnMemory result (self.new ≡ self.old) }
@@ -58,6 +60,15 @@ impl Panel {
         match self.act(alloc, op) {
             Ok(reply) => Tried::Done(reply),
             Err(_) => Tried::Memory,
+        }
+    }
+
+    /// Whether an operation can be done in this state: each can, since none waits. Takes no memory.
+    pub fn can(&self, op: &PanelOp) -> bool
+        ensures { result ≡ is_some (spec.panel_step self.now op.now) }
+    {
+        match op {
+            PanelOp::Enter(_) | PanelOp::Leave | PanelOp::Read(_) | PanelOp::Write(..) => true,
         }
     }
 
@@ -69,7 +80,7 @@ impl Panel {
     }
 
     fn act(&mut self, alloc: Global, op: PanelOp) -> Result<Reply, AllocError>
-        requires { spec.IsPanelOp self.old op }
+        requires { WritesProper op }
         ensures ok { IfOk result (λ reply. spec.panel_step self.old op ≡ Some (reply, self.new)) }
         ensures err { OnErr result (self.new ≡ self.old) }
     {
@@ -93,32 +104,32 @@ impl Panel {
         Ok(Reply::of(given))
     }
 
-    /// The value of a cell.
+    /// The value of a cell; none where there is no cell of that number.
     #[tactic(auto, using(crate::proofs::Cells::cells))]
-    fn cell(&self, cell: usize) -> &Value
-        requires { cell < spec.cell_count self.now }
-        ensures value { spec.cell_at self.now cell ≡ Some result.now }
-        ensures proper { IsProper result.now }
+    fn cell(&self, cell: usize) -> Option<&Value>
+        ensures value { option_copied result ≡ spec.cell_at self.now cell }
+        ensures proper { IfSome result (λ v. IsProper v.now) }
     {
         let controls = self.controls.as_slice();
         if cell < controls.len() {
-            return &controls[cell];
+            return controls.get(cell);
         }
-        &self.indicators.as_slice()[cell - controls.len()]
+        self.indicators.as_slice().get(cell - controls.len())
     }
 
     fn read(&self, alloc: Global, cell: usize) -> Result<Reply, AllocError>
-        requires { cell < spec.cell_count self.now }
         ensures { IfOk result (λ reply. spec.panel_step self.now (operation.Read cell) ≡ Some (reply, self.now)) }
     {
-        let value = uncounted_copy(alloc, self.cell(cell))?;
+        let value = match self.cell(cell) {
+            Some(value) => uncounted_copy(alloc, value)?,
+            None => return Ok(Reply::of(ValueList::new(alloc))),
+        };
         Ok(Reply::of(one_value(alloc, value)?))
     }
 
     #[tactic(auto, using(crate::proofs::Cells::cells))]
     fn write(&mut self, cell: usize, value: Value)
-        requires number { cell < spec.cell_count self.old }
-        requires proper { IsProper value }
+        requires { IsProper value }
         ensures { self.new ≡ spec.with_cell self.old cell value }
     {
         let controls = self.controls.len();
@@ -126,7 +137,11 @@ impl Panel {
             self.controls.set(cell, value);
             return;
         }
-        self.indicators.set(cell - controls, value);
+        let indicator = cell - controls;
+        if indicator >= self.indicators.len() {
+            return;
+        }
+        self.indicators.set(indicator, value);
     }
 }
 

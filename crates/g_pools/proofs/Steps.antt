@@ -1,6 +1,7 @@
 -- The steps of a pool, by whether the clone is free.
-use Rattle.std.proofs.Common.{◌≡◌, ◌<◌, ◌≤◌, ℕ, zero, suc, Bool, true, false, List, [], ◌∷◌, length, take, set, refl, ap, ◌∙◌, subst, arith}
+use Rattle.std.proofs.Common.{◌≡◌, ◌<◌, ◌≤◌, ℕ, zero, suc, Bool, true, false, List, [], ◌∷◌, length, take, set, refl, sym, ap, ◌∙◌, subst, arith}
 use Rattle.std.specs.Prelude.{Option, Some, None, is_some, slice_get, slice_set}
+use Rattle.std.proofs.lemmas.List.{set_past}
 use Rattle.std.proofs.lemmas.Option.{slice_get_within, slice_get_past}
 use Rattle.g_values.specs.declared.value.Value.{Value}
 use Rattle.g_shared.specs.Outcome.{Outcome, reply_of}
@@ -53,6 +54,10 @@ none_free free n long below k =
 pub left : (old new : List Bool) (k : ℕ) (reply : Reply) → reply ≡ reply_of [] → new ≡ slice_set old k true → pool_step old (Leave k) 0 ≡ Some (reply, new)
 left old new k reply given freed = rw (given, freed) refl
 
+-- nothing changes where there is no such clone
+pub left_none : (old : List Bool) (k : ℕ) (reply : Reply) → reply ≡ reply_of [] → length old ≤ k → pool_step old (Leave k) 0 ≡ Some (reply, old)
+left_none old k reply given past = left old old k reply given (sym (set_past old k true past))
+
 -- a leave has no choice
 pub leave_gives : (choice : Option ℕ) (old : PoolState) (k : ℕ) (reply : Reply) (new : PoolState) → pool_step old (Leave k) 0 ≡ Some (reply, new) → Gives choice old (Leave k) reply new
 leave_gives None old k reply new e = e
@@ -86,5 +91,15 @@ at_most (x ∷ xs) (suc n) = let fewer = at_most xs n in omega arith
 
 pub within_pool : (xs old : List Bool) (n k : ℕ) → take n xs ≡ old → k < length old → k < n
 within_pool xs old n k are less = let few = subst (λ ys. length ys ≤ n) are (at_most xs n) in omega arith
+
+pub past_pool : (xs old : List Bool) (n k : ℕ) → take n xs ≡ old → n ≤ k → length old ≤ k
+past_pool xs old n k are past = let few = subst (λ ys. length ys ≤ n) are (at_most xs n) in omega arith
+
+-- an array has all the clones
+pub count : (xs : List Bool) (n : ℕ) → n ≤ length xs → n ≡ length (take n xs)
+count [] zero less = refl
+count [] (suc n) less = absurd (omega arith)
+count (x ∷ xs) zero less = refl
+count (x ∷ xs) (suc n) less = ap (λ k. suc k) (count xs n (omega arith))
 
 pub ruleset steps = (enter_can, enter_past, enter_within, no_step, none_free, leave_gives, get_first)

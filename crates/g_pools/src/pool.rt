@@ -1,6 +1,6 @@
 //! The clones of a VI, as a shared object.
 
-ghost use Rattle.std.specs.Prelude.{◌≡◌, ◌≤◌, ◌<◌, ℕ, Some, None, true, false, is_some, length, slice_get, MatchOption, IfOk, OnErr};
+ghost use Rattle.std.specs.Prelude.{◌≡◌, ◌≤◌, ◌<◌, ℕ, Some, None, true, false, is_some, length, MatchOption, IfOk, IfSome, OnErr};
 ghost use Rattle.g_values.specs.Proper.{IsProper};
 ghost use Rattle.g_shared.specs.declared.operations.PoolOp.TheVariants as operation;
 ghost use Rattle.g_shared.specs.Pools as spec;
@@ -44,12 +44,21 @@ impl Pool {
         }
     }
 
+    /// How many clones there are. Takes no memory.
+    #[tactic(auto, using(crate::proofs::Steps::count))]
+    pub fn len(&self) -> u8
+        ensures { result ≡ length self.now }
+    {
+        self.clones
+    }
+
     /// Tries an operation. `Enter` with a choice takes that clone and waits while it isn't free, or is none of the pool's;
-    /// without one it takes some free clone and waits while there is none. `Leave` never waits, and has no choice.
+    /// without one it takes some free clone and waits while there is none. `Leave` never waits, and has no choice; it changes nothing
+    /// where the clone is free, or none of the pool's. The clone that is taken is below 64.
     #[tactic(auto, using(crate::proofs::Steps::steps))]
-    pub fn try_op(&mut self, alloc: Global, op: PoolOp, choice: Option<u32>) -> Tried<Reply, PoolOp>
-        requires { spec.IsPoolOp self.old op }
+    pub fn try_op(&mut self, alloc: Global, op: PoolOp, choice: Option<u64>) -> Tried<Reply, PoolOp>
         ensures done { IfDone result (λ reply. spec.Gives choice self.old op reply self.new) }
+        ensures clone { IfDone result (λ reply. reply.choice < 64) }
         ensures not_yet { IfNotYet result (λ back. (spec.Waits choice self.old op) × ((back ≡ op) × (self.new ≡ self.old))) }
         ensures memory { OnMemory result ((spec.CanGive choice self.old op) × (self.new ≡ self.old)) }
     {
@@ -61,7 +70,7 @@ impl Pool {
 
     /// Whether an operation can be done in this state: not an `Enter` while the clone that is chosen isn't free. For
     /// `Leave` the choice doesn't count. Takes no memory.
-    pub fn can(&self, op: &PoolOp, choice: u32) -> bool
+    pub fn can(&self, op: &PoolOp, choice: u64) -> bool
         ensures { result ≡ is_some (spec.pool_step self.now op.now choice) }
     {
         match op {
@@ -71,10 +80,11 @@ impl Pool {
     }
 
     #[tactic(auto, using(crate::proofs::Steps::steps))]
-    fn is_free(&self, clone: u32) -> bool
-        ensures { result ≡ is_some (spec.pool_step self.now operation.Enter clone) }
+    fn is_free(&self, clone: u64) -> bool
+        ensures can { result ≡ is_some (spec.pool_step self.now operation.Enter clone) }
+        ensures clone { result ≡ true → clone < 64 }
     {
-        if clone >= self.clones as u32 {
+        if clone >= self.clones as u64 {
             return false;
         }
         self.free[clone as usize]
@@ -83,18 +93,20 @@ impl Pool {
     /// The least clone that is free.
     #[tactic(auto, using(crate::proofs::Steps::steps))]
     fn least_free(&self) -> Option<u32>
-        ensures { MatchOption result ((k : ℕ) → is_some (spec.pool_step self.now operation.Enter k) ≡ false) (λ k. is_some (spec.pool_step self.now operation.Enter k) ≡ true) }
+        ensures clone { IfSome result (λ k. k < 64) }
+        ensures free { MatchOption result ((k : ℕ) → is_some (spec.pool_step self.now operation.Enter k) ≡ false) (λ k. is_some (spec.pool_step self.now operation.Enter k) ≡ true) }
     {
         for clone in 0..self.clones as u32 {
-            if self.is_free(clone) {
+            if self.is_free(clone as u64) {
                 return Some(clone);
             }
         }
         None
     }
 
-    fn try_enter(&mut self, alloc: Global, choice: Option<u32>) -> Tried<Reply, PoolOp>
+    fn try_enter(&mut self, alloc: Global, choice: Option<u64>) -> Tried<Reply, PoolOp>
         ensures done { IfDone result (λ reply. spec.Gives choice self.old operation.Enter reply self.new) }
+        ensures clone { IfDone result (λ reply. reply.choice < 64) }
         ensures not_yet { IfNotYet result (λ back. (spec.Waits choice self.old operation.Enter) × ((back ≡ operation.Enter) × (self.new ≡ self.old))) }
         ensures memory { OnMemory result ((spec.CanGive choice self.old operation.Enter) × (self.new ≡ self.old)) }
     {
@@ -105,15 +117,16 @@ impl Pool {
     }
 
     #[tactic(auto, using(crate::proofs::Steps::steps))]
-    fn try_enter_clone(&mut self, alloc: Global, clone: u32) -> Tried<Reply, PoolOp>
+    fn try_enter_clone(&mut self, alloc: Global, clone: u64) -> Tried<Reply, PoolOp>
         ensures done { IfDone result (λ reply. spec.pool_step self.old operation.Enter clone ≡ Some (reply, self.new)) }
+        ensures clone { IfDone result (λ reply. reply.choice < 64) }
         ensures not_yet { IfNotYet result (λ back. (spec.pool_step self.old operation.Enter clone ≡ None) × ((back ≡ operation.Enter) × (self.new ≡ self.old))) }
         ensures memory { OnMemory result ((is_some (spec.pool_step self.old operation.Enter clone) ≡ true) × (self.new ≡ self.old)) }
     {
         if !self.is_free(clone) {
             return Tried::NotYet(PoolOp::Enter);
         }
-        match self.enter(alloc, clone) {
+        match self.enter(alloc, clone as u32) {
             Ok(reply) => Tried::Done(reply),
             Err(_) => Tried::Memory,
         }
@@ -122,6 +135,7 @@ impl Pool {
     #[tactic(auto, using(crate::proofs::Steps::steps))]
     fn try_enter_some(&mut self, alloc: Global) -> Tried<Reply, PoolOp>
         ensures done { IfDone result (λ reply. spec.pool_step self.old operation.Enter reply.choice ≡ Some (reply, self.new)) }
+        ensures clone { IfDone result (λ reply. reply.choice < 64) }
         ensures not_yet { IfNotYet result (λ back. (spec.Waits None self.old operation.Enter) × ((back ≡ operation.Enter) × (self.new ≡ self.old))) }
         ensures memory { OnMemory result ((spec.CanGive None self.old operation.Enter) × (self.new ≡ self.old)) }
     {
@@ -150,11 +164,15 @@ impl Pool {
     }
 
     fn leave(&mut self, alloc: Global, clone: u8) -> Reply
-        requires { slice_get self.old clone ≡ Some false }
-        ensures { spec.pool_step self.old (operation.Leave clone) 0 ≡ Some (result, self.new) }
+        ensures step { spec.pool_step self.old (operation.Leave clone) 0 ≡ Some (result, self.new) }
+        ensures choice { result.choice ≡ 0 }
     {
+        let reply = Reply::of(ValueList::new(alloc));
+        if clone >= self.clones {
+            return reply;
+        }
         self.free[clone as usize] = true;
-        Reply::of(ValueList::new(alloc))
+        reply
     }
 }
 

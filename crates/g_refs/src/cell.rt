@@ -1,6 +1,7 @@
 //! A value that references name, as a shared object.
 
-ghost use Rattle.std.specs.Prelude.{◌≡◌, ◌∷◌, [], Some, None, true, is_some, IfOk, OnErr};
+ghost use Rattle.std.specs.Prelude.{◌≡◌, ◌∷◌, [], Some, None, true, is_some, IfOk, IfSome, OnErr};
+ghost use Rattle.std.specs.Option.{option_copied};
 ghost use Rattle.g_types.specs.declared.ty.Ty.TheVariants as ty;
 ghost use Rattle.g_values.specs.Spelled.{IsSpelled};
 ghost use Rattle.g_values.specs.Typed.{IsOfType};
@@ -8,11 +9,11 @@ ghost use Rattle.g_shared.specs.declared.operations.RefOp.TheVariants as operati
 ghost use Rattle.g_shared.specs.Outcome.{reply_of};
 ghost use Rattle.g_shared.specs.Cells as spec;
 ghost use Rattle.g_shared.specs.Tried.{IfDone, IfNotYet, OnMemory};
-ghost use Rattle.g_refs.specs.Cell.{reference};
+ghost use Rattle.g_refs.specs.Cell.{reference, value_for, Places};
 
 use g_shared::{RefOp, Reply, Tried, done, not_live, one_value, two_values, two_values_in};
 use g_types::Ty;
-use g_values::{Live, RefValue, Value, default_of};
+use g_values::{Copies, Live, RefValue, Value, ValueList, copy, default_of};
 use std::alloc::{AllocError, Global};
 use std::marker::Model;
 
@@ -69,6 +70,65 @@ impl Cell {
             Ok(reply) => Tried::Done(reply),
             Err(_) => Tried::Memory,
         }
+    }
+
+    /// Whether an operation can be done in this state: each can, since none waits. Takes no memory.
+    #[tactic(auto, using(crate::proofs::Steps::steps))]
+    pub fn can(&self, op: &RefOp) -> bool
+        ensures { result ≡ is_some (spec.cell_step self.now op.now) }
+    {
+        match op {
+            RefOp::Make(_) | RefOp::Delete(_) => true,
+        }
+    }
+
+    /// The value, where a reference with this serial is live.
+    #[tactic(auto, using(crate::proofs::Steps::steps, crate::proofs::Holds::holds))]
+    pub fn live(&self, serial: u64) -> Option<&Value>
+        ensures value { option_copied result ≡ spec.live_value self.now serial }
+        ensures typed { IfSome result (λ v. IsOfType self.now.content v.now) }
+    {
+        if !self.is_live(serial) {
+            return None;
+        }
+        self.kept.as_ref()
+    }
+
+    /// What a body in place gets by a reference with this serial: a copy of the value, which is counted nowhere, and the
+    /// default of its type where the reference isn't live. Only want of memory refuses it.
+    #[tactic(auto, using(crate::proofs::Steps::steps, crate::proofs::Holds::holds))]
+    pub fn value_for(&self, alloc: Global, serial: u64) -> Result<Value, AllocError>
+        ensures value { IfOk result (λ v. v ≡ value_for self.now serial) }
+        ensures typed { IfOk result (IsOfType self.now.content) }
+    {
+        match self.live(serial) {
+            Some(value) => copy(alloc, value, &mut Copies { n: 0 }),
+            None => default_of(alloc, &self.content),
+        }
+    }
+
+    /// Ends an operation in place by a reference with this serial, with what its body made of the value that it got: the
+    /// new value, which the cell has from now on, and the outputs. The reply has the outputs and the code 0. Where the
+    /// reference isn't live the new value is dropped, and the code is 1. After want of memory the cell is as before.
+    #[tactic(auto, using(crate::proofs::Steps::steps, crate::proofs::Holds::holds))]
+    pub fn place(
+        &mut self,
+        serial: u64,
+        value: Value,
+        outputs: ValueList,
+    ) -> Result<Reply, AllocError>
+        requires { IsOfType self.old.content value }
+        ensures ok { IfOk result (λ reply. Places self.old serial value outputs reply self.new) }
+        ensures err { OnErr result (self.new ≡ self.old) }
+    {
+        let mut values = outputs;
+        if !self.is_live(serial) {
+            values.push(not_live())?;
+            return Ok(Reply::of(values));
+        }
+        values.push(done())?;
+        self.kept = Some(value);
+        Ok(Reply::of(values))
     }
 
     fn act(&mut self, alloc: Global, op: RefOp) -> Result<Reply, AllocError>

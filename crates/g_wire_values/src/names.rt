@@ -1,6 +1,7 @@
 //! The sources of a diagram by their names.
 
-ghost use Rattle.std.specs.Prelude.{◌≡◌, [], OnOk};
+ghost use Rattle.std.specs.Prelude.{◌≡◌, [], length, slice_get, OnOk};
+ghost use Rattle.std.specs.Option.{option_map};
 
 use indexmap::IndexMap;
 use std::alloc::{AllocError, Global};
@@ -41,6 +42,23 @@ impl<'a> SourceNames<'a> {
         ensures { result ≡ named self.now name.now }
     {
         self.map.get(&name).copied()
+    }
+
+    /// How many names there are.
+    pub fn len(&self) -> usize
+        ensures { result ≡ length self.now }
+    {
+        self.map.len()
+    }
+
+    /// A name by its place among the names, with its number.
+    pub fn entry(&self, at: usize) -> Option<(&'a [u8], usize)>
+        ensures { option_map (λ e. (e.0.now, e.1)) result ≡ slice_get self.now at }
+    {
+        match self.map.get_index(at) {
+            Some((name, number)) => Some((*name, *number)),
+            None => None,
+        }
     }
 
     /// Adds the source of a name, unless there is one of this name.
