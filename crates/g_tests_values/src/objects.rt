@@ -1,11 +1,12 @@
 //! Shared objects: queues, panels, values that references name, and pools of clones.
 
-ghost use Rattle.std.specs.Prelude.{◌≡◌, ◌<◌, ◌∷◌, [], Some, false, slice_get, IfOk};
+ghost use Rattle.std.specs.Prelude.{◌≡◌, ◌∷◌, [], IfOk};
 ghost use Rattle.g_types.specs.declared.rep.Rep.TheVariants.{I32};
 ghost use Rattle.g_types.specs.declared.ty.Ty.TheVariants as ty;
 ghost use Rattle.g_shared.specs.Outcome.{count};
-ghost use Rattle.g_shared.specs.Panels.{IsPanelOp, panel_of};
+ghost use Rattle.g_shared.specs.Panels.{panel_of};
 ghost use Rattle.g_shared.specs.Queues.{IsQueueOp, IsSize};
+ghost use Rattle.g_panels.specs.Panel.{WritesProper};
 
 use g_panels::Panel;
 use g_pools::Pool;
@@ -224,7 +225,7 @@ fn a_value_made_again_has_a_new_reference(rt: HostRuntime) {
 }
 
 /// Whether an enter takes this clone, and gives its number.
-fn takes(alloc: Global, pool: &mut Pool, choice: Option<u32>, clone: u32) -> bool {
+fn takes(alloc: Global, pool: &mut Pool, choice: Option<u64>, clone: u32) -> bool {
     match pool.try_op(alloc, PoolOp::Enter, choice) {
         Tried::Done(reply) => {
             reply.choice == clone && are_numbers(reply.values.as_slice(), &[clone as i128])
@@ -233,7 +234,7 @@ fn takes(alloc: Global, pool: &mut Pool, choice: Option<u32>, clone: u32) -> boo
     }
 }
 
-fn pool_waits(alloc: Global, pool: &mut Pool, choice: Option<u32>) -> bool {
+fn pool_waits(alloc: Global, pool: &mut Pool, choice: Option<u64>) -> bool {
     waits(&pool.try_op(alloc, PoolOp::Enter, choice))
 }
 
@@ -259,9 +260,7 @@ fn is_freed(alloc: Global) -> bool {
     }
 }
 
-fn is_left(alloc: Global, pool: &mut Pool) -> bool
-    requires { slice_get pool.old 0 ≡ Some false }
-{
+fn is_left(alloc: Global, pool: &mut Pool) -> bool {
     if !gives(&pool.try_op(alloc, PoolOp::Leave(0), None), &[]) {
         return false;
     }
@@ -283,7 +282,7 @@ fn panel(alloc: Global) -> Result<Panel, AllocError>
 }
 
 fn panel_gives(alloc: Global, panel: &mut Panel, op: PanelOp, expected: &[i128]) -> bool
-    requires { IsPanelOp panel.old op }
+    requires { WritesProper op }
 {
     gives(&panel.try_op(alloc, op), expected)
 }
@@ -304,9 +303,7 @@ fn an_opening_sets_the_controls_alone(rt: HostRuntime) -> Result<(), Fail> {
     Ok(())
 }
 
-fn reads(alloc: Global, cell: u32, n: i128) -> Result<bool, AllocError>
-    requires { cell < 2 }
-{
+fn reads(alloc: Global, cell: u32, n: i128) -> Result<bool, AllocError> {
     let mut panel = panel(alloc)?;
     Ok(panel_gives(alloc, &mut panel, PanelOp::Read(cell), &[n]))
 }
