@@ -260,7 +260,7 @@ opens_is : (h : Here) (inputs : List Wire) (v clone : ℕ) (called : FlatVi) (sp
 opens_is h inputs v clone called None = refl
 opens_is h inputs v clone called (Some space) =
     panel_is h space (panel.Enter (arguments h.outer inputs called.panel)) (λ reply. effects.opens (progress.Call clone (Opened (next_frame h)))
-      (record { vi = v; space = space; diagram = 0; iteration = 0; gives = controls_given 1 called.panel reply.values }))
+    (record { vi = v; space = space; diagram = 0; iteration = 0; gives = controls_given 1 called.panel reply.values }))
 
 entered_is : (h : Here) (v k : ℕ) → enters_can h v k ≡ is_some (calls.enters h v k)
 entered_is h v k = sym (on_object_is h (pool_object h.program v) k (content.OnPool pool.Enter) (λ reply. effects.gives (progress.Call reply.choice Entered) []) (slice_get h.objects (pool_object h.program v)))

@@ -65,8 +65,8 @@ same_made s body (Some v) = refl
 
 placed_is : (h : Here) (e : Entry) (lines : List Tunnel) (body finish : ℕ) (r : Reference) (t : Ty) (l : Live) (m : Option Content) → is_some m ≡ true →
     option_and_then (λ (v : Value). after_step (Some l.object) (place_done h e lines r)
-      (option_and_then (λ c. object_step c (content.InPlace l.serial []) 0 (λ w ws. ((place_body h e lines body finish r.next t v []).0, (place_body h e lines body finish r.next t v []).1))) m))
-      (option_and_then (λ c. given_to c l.serial) m)
+    (option_and_then (λ c. object_step c (content.InPlace l.serial []) 0 (λ w ws. ((place_body h e lines body finish r.next t v []).0, (place_body h e lines body finish r.next t v []).1))) m))
+    (option_and_then (λ c. given_to c l.serial) m)
     ≡ after_step (Some l.object) (place_done h e lines r) (object_step (unwrap_or m (no_cell t)) (content.InPlace l.serial []) 0 (place_body h e lines body finish r.next t))
 placed_is h e lines body finish r t l None names = absurd cc
 placed_is h e lines body finish r t l (Some (content.Panel s)) names = refl
@@ -74,7 +74,7 @@ placed_is h e lines body finish r t l (Some (content.Queue s)) names = refl
 placed_is h e lines body finish r t l (Some (content.Pool s)) names = refl
 placed_is h e lines body finish r t l (Some (content.Cell s)) names =
     ap (λ (o : Outcome CellState). after_step (Some l.object) (place_done h e lines r) (as_content content.Cell o))
-      (same_made s (place_body h e lines body finish r.next t) (live_value s l.serial))
+    (same_made s (place_body h e lines body finish r.next t) (live_value s l.serial))
 
 through : {A : Type 0} (f : Plan → Option A) (g : Value → Plan) (m : Option Value) → option_and_then f (option_map g m) ≡ option_and_then (λ v. f (g v)) m
 through f g None = refl

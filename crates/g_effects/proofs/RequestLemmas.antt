@@ -47,8 +47,8 @@ opens_is : (h : Here) (e : Entry) (p : Progress) (inputs : List Wire) (v clone :
 opens_is h e p inputs v clone called is None = refl
 opens_is h e p inputs v clone called is (Some space) =
     ap (λ (m : Option FlatVi). on_object h (panel_object h.program space) (content.OnPanel (panel.Enter (arguments h.outer inputs called.panel))) 0
-      (λ reply. effects.opens (progress.Call clone (Opened (next_frame h)))
-      (record { vi = v; space = space; diagram = 0; iteration = 0; gives = controls_given 1 (option_map_or (λ vi. vi.panel) m []) reply.values }))) is
+    (λ reply. effects.opens (progress.Call clone (Opened (next_frame h)))
+    (record { vi = v; space = space; diagram = 0; iteration = 0; gives = controls_given 1 (option_map_or (λ vi. vi.panel) m []) reply.values }))) is
 
 begun_is : (h : Here) (e : Entry) (p : Progress) (inputs : List Wire) (v : ℕ) (called : FlatVi) → vi_at h.program v ≡ Some called → (clones : Clones) (choice : Option ℕ) →
     option_and_then (requested h e p) (begins_by clones h e.line inputs v called.panel called.clones choice) ≡ calls.call_begins h e inputs v called clones choice

@@ -24,11 +24,7 @@ pub enum Then {
     /// The call has the clone that the operation took.
     CallEnters,
     /// The call of this VI and clone opens the frame of the data space, with the values of its controls.
-    CallOpens {
-        vi: u32,
-        clone: u8,
-        space: u32,
-    },
+    CallOpens { vi: u32, clone: u8, space: u32 },
     /// The call's outputs are what the operation gives, and its clone is to be freed.
     CallReturns,
     /// The same where no clone is to be freed.
