@@ -1,9 +1,0 @@
-pub mod Advance
-pub mod Effects
-pub mod Structures
-pub mod Needs
-pub mod Turns
-pub mod Requests
-pub mod Kinds
-pub mod Can
-pub mod Laws
