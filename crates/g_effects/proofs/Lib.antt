@@ -1,0 +1,5 @@
+pub mod TurnLemmas
+pub mod RequestLemmas
+pub mod KindLemmas
+pub mod FitLemmas
+pub mod RoomLemmas
