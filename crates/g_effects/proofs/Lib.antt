@@ -2,4 +2,4 @@ pub mod TurnLemmas
 pub mod RequestLemmas
 pub mod KindLemmas
 pub mod FitLemmas
-pub mod RoomLemmas
+pub mod BeginLemmas

@@ -1,7 +1,7 @@
--- What is read is of its type, and proper where its type is within the limits.
-use Rattle.std.proofs.Common.{◌≡◌, ℕ, zero, suc, ◌≤◌, Bool, true, false, List, [], ◌∷◌, length, map, Option, Some, None, refl, sym, ap, ◌∙◌, arith, subst, inl, inr, ◌⊎◌}
+-- What is read is of its type, proper where its type is within the limits, and refers to nothing.
+use Rattle.std.proofs.Common.{◌≡◌, ℕ, zero, suc, ◌≤◌, Bool, true, false, ◌&&◌, List, [], ◌∷◌, length, map, Option, Some, None, refl, sym, ap, ◌∙◌, arith, subst, inl, inr, ◌⊎◌}
 use Rattle.std.specs.Prelude.{nat_le, if◌then◌else◌}
-use Rattle.std.specs.List.{All}
+use Rattle.std.specs.List.{All, list_all}
 use Rattle.std.specs.Option.{option_map}
 use Rattle.std.proofs.lemmas.Bool.{leb-true}
 use Rattle.std.proofs.lemmas.List.{length-map}
@@ -23,7 +23,7 @@ use Rattle.g_values.specs.declared.value.RefValue.{RefValue}
 use Rattle.g_values.specs.declared.value.Value.{Value}
 use Rattle.g_values.specs.declared.value.Value.TheVariants as value
 use Rattle.g_values.specs.declared.value.Value.TheOpen.{Value-F}
-use Rattle.g_values.specs.declared.value.Value.TheFolds.{every_made-Value}
+use Rattle.g_values.specs.declared.value.Value.TheFolds.{every_made-Value, fold-roll-Value}
 use Rattle.g_values.specs.Number.{num_of}
 use Rattle.g_values.specs.Numbers.{Numbers as Several}
 use Rattle.g_values.specs.Proper.{IsProper, IsLayer, IsWhole, IsArr, most}
@@ -31,6 +31,8 @@ use Rattle.g_values.specs.Spelled.{IsSpelled, IsWholeType}
 use Rattle.g_values.specs.Value.{type_of}
 use Rattle.g_values.proofs.ProperLemmas.{whole-made_cluster}
 use Rattle.g_valtext.specs.Forms.{Form, Number, Truth, Text, Numbers, Items, Parts, Null, form, forms_of, items_of, rep_of}
+use Rattle.g_valtext.specs.Plain.{refers_to_none, null_step}
+use Rattle.g_valtext.proofs.Ranged.{null-Arr, null-Cluster, null-Queue, null-Cell}
 use Rattle.g_valtext.specs.Spellings.{first_of, rest_of, of_form, values, grammars, number_within, truth, text_within, null, close_bracket, turn_rest, after_turn, further, from_first, array_rest, most_further, parts, parts_after}
 use Rattle.g_values.proofs.SpelledTypes.{layer-Arr, layer-Cluster, whole-item, whole-parts}
 use Rattle.g_values.proofs.TypesOf.{type-Num, type-Bool, type-Str, type-Nums, type-Arr, type-Cluster, type-Queue, type-Cell}
@@ -97,7 +99,26 @@ text_short (token.Text bytes) s e = go (nat_le (length bytes) most) refl e
 text_short _ s e = absurd cc
 
 abbrev IsRead : Ty → Value → Type 0
-IsRead t v = (type_of v ≡ t) × (IsWholeType t → IsWhole v)
+IsRead t v = (type_of v ≡ t) × (IsWholeType t → IsWhole v) × (refers_to_none v ≡ true)
+
+null-Num : (x : Num) → refers_to_none (value.Num x) ≡ true
+null-Num x = ap refers_to_none (sym (value.rolls-Num x)) ∙ fold-roll-Value Bool null_step (Value-F.Num x)
+
+null-Bool : (b : Bool) → refers_to_none (value.Bool b) ≡ true
+null-Bool b = ap refers_to_none (sym (value.rolls-Bool b)) ∙ fold-roll-Value Bool null_step (Value-F.Bool b)
+
+null-Str : (s : List ℕ) → refers_to_none (value.Str s) ≡ true
+null-Str s = ap refers_to_none (sym (value.rolls-Str s)) ∙ fold-roll-Value Bool null_step (Value-F.Str s)
+
+null-Nums : (xs : Several) → refers_to_none (value.Nums xs) ≡ true
+null-Nums xs = ap refers_to_none (sym (value.rolls-Nums xs)) ∙ fold-roll-Value Bool null_step (Value-F.Nums xs)
+
+-- each of these refers to nothing
+none_refers : (vs : List Value) → All (λ v. refers_to_none v ≡ true) vs → list_all refers_to_none vs ≡ true
+none_refers [] all = refl
+none_refers (v ∷ vs) all =
+    ap (λ b. b && list_all refers_to_none vs) (All-head (λ v. refers_to_none v ≡ true) v vs all)
+    ∙ none_refers vs (All-tail (λ v. refers_to_none v ≡ true) v vs all)
 
 whole-Num : (x : Num) → IsWhole (value.Num x)
 whole-Num x = subst IsWhole (value.rolls-Num x) (every_made-Value IsLayer (Value-F.Num x) (Value-F.Num x) refl tt)
@@ -137,19 +158,19 @@ read-Number : (r : Rep) (ts : List Token) (v : Value) (rest : List Token) → Ha
 unfolding rest_of grammars
 read-Number r ts v rest h =
     let o = from_one (number_within r) (λ n. value.Num (num_of r n)) ts h.0 h.2.0 in
-    subst (IsRead (ty.Num r)) (o.3 ∙ h.3.0) (type-Num (num_of r o.1), λ l. whole-Num (num_of r o.1))
+    subst (IsRead (ty.Num r)) (o.3 ∙ h.3.0) (type-Num (num_of r o.1), (λ l. whole-Num (num_of r o.1)), null-Num (num_of r o.1))
 
 read-Truth : (ts : List Token) (v : Value) (rest : List Token) → Has (of_form Truth) ts v rest → IsRead ty.Bool v
 unfolding rest_of grammars
 read-Truth ts v rest h =
     let o = from_one truth (λ b. value.Bool b) ts h.0 h.2.0 in
-    subst (IsRead ty.Bool) (o.3 ∙ h.3.0) (type-Bool o.1, λ l. whole-Bool o.1)
+    subst (IsRead ty.Bool) (o.3 ∙ h.3.0) (type-Bool o.1, (λ l. whole-Bool o.1), null-Bool o.1)
 
 read-Text : (ts : List Token) (v : Value) (rest : List Token) → Has (of_form Text) ts v rest → IsRead ty.Str v
 unfolding rest_of grammars
 read-Text ts v rest h =
     let o = from_one text_within (λ s. value.Str s) ts h.0 h.2.0 in
-    subst (IsRead ty.Str) (o.3 ∙ h.3.0) (type-Str o.1, λ l. whole-Str o.1 (text_short o.0 o.1 o.2))
+    subst (IsRead ty.Str) (o.3 ∙ h.3.0) (type-Str o.1, (λ l. whole-Str o.1 (text_short o.0 o.1 o.2)), null-Str o.1)
 
 read-Null : (w : Value) (ts : List Token) (v : Value) (rest : List Token) → Has (of_form (Null w)) ts v rest → w ≡ v
 unfolding rest_of grammars
@@ -161,7 +182,7 @@ read-Numbers r ts v rest h =
     let all = h.3.0 in
     let few = (array_all (number_within r) (λ n. give n) (λ n. Unit {0}) (λ ts x rest h. tt) h.1 all h.3.1 h.3.2).1 in
     let xs : Several = record { rep = r; all = all } in
-    subst (IsRead (ty.Arr (ty.Num r))) h.3.3.0 (type-Nums xs, λ l. whole-Nums xs few)
+    subst (IsRead (ty.Arr (ty.Num r))) h.3.3.0 (type-Nums xs, (λ l. whole-Nums xs few), null-Nums xs)
 
 -- the values of a type are read as such
 abbrev Reads : Ty → Type 0
@@ -170,8 +191,8 @@ Reads t = (ts : List Token) (v : Value) (rest : List Token) → Has (values t) t
 abbrev Told : Type 0
 Told = (t : Ty) × Reads t
 
-both_all : (t : Ty) (vs : List Value) → All (IsRead t) vs → All (λ v. type_of v ≡ t) vs × (IsWholeType t → All IsWhole vs)
-both_all t vs a = (λ k d lt. (a k d lt).0, λ l k d lt. (a k d lt).1 l)
+both_all : (t : Ty) (vs : List Value) → All (IsRead t) vs → All (λ v. type_of v ≡ t) vs × (IsWholeType t → All IsWhole vs) × All (λ v. refers_to_none v ≡ true) vs
+both_all t vs a = ((λ k d lt. (a k d lt).0), (λ l k d lt. (a k d lt).1 l), (λ k d lt. (a k d lt).2))
 
 read-Items : (t : Ty) → Reads t → is_num t ≡ false → (ts : List Token) (v : Value) (rest : List Token) → Has (of_form (Items t (form t))) ts v rest → IsRead (ty.Arr t) v
 unfolding rest_of grammars
@@ -181,17 +202,25 @@ read-Items t each apart ts v rest h =
     let all = array_all (first_of f) (rest_of f) (IsRead t) each h.1 items h.3.1 h.3.2 in
     let b = both_all t items all.0 in
     let xs : ArrOf Value = record { elem = t; items = items } in
-    subst (IsRead (ty.Arr t)) h.3.3.0 (type-Arr xs, λ l. whole-Arr xs (record { few = all.1; one_type = b.0; no_number = apart; no_array = layer-Arr t l }) (b.1 (whole-item t l)))
+    subst (IsRead (ty.Arr t)) h.3.3.0 (
+      type-Arr xs,
+      (λ l. whole-Arr xs (record { few = all.1; one_type = b.0; no_number = apart; no_array = layer-Arr t l }) (b.1 (whole-item t l))),
+      null-Arr xs ∙ none_refers items b.2,
+    )
 
 abbrev AreRead : List Ty → List Value → Type 0
-AreRead types vs = (map type_of vs ≡ types) × (All IsWholeType types → All IsWhole vs)
+AreRead types vs = (map type_of vs ≡ types) × (All IsWholeType types → All IsWhole vs) × (list_all refers_to_none vs ≡ true)
 
 one_more : (t : Ty) (types : List Ty) (v : Value) (vs : List Value) → IsRead t v → AreRead types vs → AreRead (t ∷ types) (v ∷ vs)
 one_more t types v vs r rs =
-    (ap (λ u. u ∷ map type_of vs) r.0 ∙ ap (λ l. t ∷ l) rs.0, λ l. All-cons IsWhole v vs (r.1 (All-head IsWholeType t types l)) (rs.1 (All-tail IsWholeType t types l)))
+    (
+      ap (λ u. u ∷ map type_of vs) r.0 ∙ ap (λ l. t ∷ l) rs.0,
+      (λ l. All-cons IsWhole v vs (r.1 (All-head IsWholeType t types l)) (rs.1 (All-tail IsWholeType t types l))),
+      ap (λ b. b && list_all refers_to_none vs) r.2 ∙ rs.2,
+    )
 
 no_parts : AreRead [] []
-no_parts = (refl, λ l. All-nil IsWhole)
+no_parts = (refl, (λ l. All-nil IsWhole), refl)
 
 after_read : (ps : List Told) (ts : List Token) (vs : List Value) (rest : List Token) → Has (parts_after (map values (map (λ p. p.0) ps))) ts vs rest → AreRead (map (λ p. p.0) ps) vs
 after_read [] ts vs rest h = subst (AreRead []) h.3.0 no_parts
@@ -213,11 +242,12 @@ read-Cluster ps ts v rest h =
     let long : length vs ≡ length types = sym (length-map vs type_of) ∙ ap length r.0 in
     subst (IsRead (ty.Cluster types)) h.3.3.0 (
       type-Cluster vs ∙ ap ty.Cluster r.0,
-      λ l.
+      (λ l.
           let is = layer-Cluster types l in
           let some = is.some in
           let few = is.few in
-          whole-made_cluster vs (record { some = omega arith; few = omega arith }) (r.1 (whole-parts types l)),
+          whole-made_cluster vs (record { some = omega arith; few = omega arith }) (r.1 (whole-parts types l))),
+      null-Cluster vs ∙ r.2,
     )
 
 -- ---- all types
@@ -247,11 +277,11 @@ told (Ty-F.Cluster ps) =
 told (Ty-F.QueueRef p) =
     let r : RefValue = record { elem = p.0; at = None } in
     subst Reads (sym (ty.rolls-QueueRef p.0)) (by_form (ty.QueueRef p.0) (Null (value.Queue r)) (form-QueueRef p.0)
-    (λ ts v rest h. subst (IsRead (ty.QueueRef p.0)) (read-Null (value.Queue r) ts v rest h) (type-Queue r, λ l. whole-Queue r)))
+    (λ ts v rest h. subst (IsRead (ty.QueueRef p.0)) (read-Null (value.Queue r) ts v rest h) (type-Queue r, (λ l. whole-Queue r), null-Queue r)))
 told (Ty-F.ValueRef p) =
     let r : RefValue = record { elem = p.0; at = None } in
     subst Reads (sym (ty.rolls-ValueRef p.0)) (by_form (ty.ValueRef p.0) (Null (value.Cell r)) (form-ValueRef p.0)
-    (λ ts v rest h. subst (IsRead (ty.ValueRef p.0)) (read-Null (value.Cell r) ts v rest h) (type-Cell r, λ l. whole-Cell r)))
+    (λ ts v rest h. subst (IsRead (ty.ValueRef p.0)) (read-Null (value.Cell r) ts v rest h) (type-Cell r, (λ l. whole-Cell r), null-Cell r)))
 
 reads : (t : Ty) → Reads t
 reads = ind-Ty Reads (λ x y is. subst (λ z. Reads (roll-Ty z)) is (told y))
@@ -263,3 +293,6 @@ pub proper : (t : Ty) (ts : List Token) (v : Value) → Has (values t) ts v [] �
 proper t ts v h is =
     let r = reads t ts v [] h in
     record { whole = r.1 is.whole; spelled = subst IsSpelled (sym r.0) is }
+
+pub refers_to_nothing : (t : Ty) (ts : List Token) (v : Value) → Has (values t) ts v [] → refers_to_none v ≡ true
+refers_to_nothing t ts v h = (reads t ts v [] h).2

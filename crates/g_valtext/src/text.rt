@@ -63,6 +63,7 @@ pub fn read_value(alloc: Global, ty: &Ty, text: &[u8]) -> Result<Value, ValueRef
     ensures spelled { IfOk result (IsSpelling ty.now text.now) }
     ensures typed { IfOk result (λ v. type_of v ≡ ty.now) }
     ensures proper { IfOk result (λ v. IsSpelled ty.now → IsProper v) }
+    ensures null { IfOk result (λ v. IsTrue (refers_to_none v)) }
 
     // What the text spells is read, unless memory is wanting.
     ensures only { (v : Item) → IsSpelling ty.now text.now v → MatchResult result (λ w. w ≡ v) IsMemory }

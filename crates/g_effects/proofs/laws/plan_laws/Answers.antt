@@ -1,6 +1,6 @@
 use Rattle.g_effects.proofs.KindLemmas.{plan_is}
 use Rattle.g_effects.proofs.FitLemmas.{plan_fits}
-use Rattle.g_effects.proofs.RoomLemmas.{begins_within}
+use Rattle.g_effects.proofs.BeginLemmas.{begins_within}
 use Rattle.g_effects.proofs.laws.plan_laws.Goals as goal
 
 pub returns-clause-plans : goal.returns-clause-plans

@@ -2,7 +2,7 @@ use Rattle.std.proofs.Common.{◌∙◌, ◌-◌, ap, length}
 use Rattle.std.specs.List.{slice_index_or}
 use Rattle.g_valtext.proofs.Back.{printed_spells}
 use Rattle.g_valtext.specs.Spellings.{tokens}
-use Rattle.g_valtext.proofs.Kept.{typed, proper}
+use Rattle.g_valtext.proofs.Kept.{typed, proper, refers_to_nothing}
 use Rattle.g_valtext.proofs.Exact.{spelled_by, only_by, never_by, rest_within, refused_by}
 use Rattle.g_valtext.proofs.text.read_value.Goals as goal
 
@@ -43,3 +43,7 @@ returns-in-Ok-whole_value-clause-typed c =
 pub returns-in-Ok-whole_value-clause-proper : goal.returns-in-Ok-whole_value-clause-proper
 returns-in-Ok-whole_value-clause-proper c = λ is.
     proper c.args.ty.now (tokens c.args.text.now) c.in-Ok-whole_value.value (spelled_by c.args.ty.now c.args.text.now c.as_slice-tokens.result.now c.in-Ok-whole_value.value (c.as_slice-tokens.ensures ∙ c.in-Ok.ensures.tokens) c.in-Ok-whole_value.ensures) is
+
+pub returns-in-Ok-whole_value-clause-null : goal.returns-in-Ok-whole_value-clause-null
+returns-in-Ok-whole_value-clause-null c =
+    refers_to_nothing c.args.ty.now (tokens c.args.text.now) c.in-Ok-whole_value.value (spelled_by c.args.ty.now c.args.text.now c.as_slice-tokens.result.now c.in-Ok-whole_value.value (c.as_slice-tokens.ensures ∙ c.in-Ok.ensures.tokens) c.in-Ok-whole_value.ensures)
