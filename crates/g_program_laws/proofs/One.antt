@@ -36,7 +36,7 @@ same_vis all M T v (vi ∷ vis) each =
     let zero_more : v + 0 ≡ v = omega arith in
     let first : M v ≡ T v = subst (λ n. M n ≡ T n) zero_more (each 0 vi refl) in
     let rest = same_vis all M T (suc v) vis
-        (λ k w at. let more : v + suc k ≡ suc v + k = omega arith in subst (λ n. M n ≡ T n) more (each (suc k) w at)) in
+    (λ k w at. let more : v + suc k ≡ suc v + k = omega arith in subst (λ n. M n ≡ T n) more (each (suc k) w at)) in
     ap (λ types. flat_vi all types vi ∷ flat_vis all M (suc v) vis) first ∙ ap (λ fs. flat_vi all (T v) vi ∷ fs) rest
 
 -- the program of VIs that are made flat
@@ -58,9 +58,9 @@ one_program_by : (h : Hierarchy) → ((k : ℕ) (vi : Vi) → slice_get h.vis k 
     → (main : ℕ) (p q : Program) → IsProgram h main p → IsProgram h main q → p ≡ q
 one_program_by h none main p q a b =
     let typed : (k : ℕ) (vi : Vi) → slice_get h.vis k ≡ Some vi → a.types (0 + k) ≡ b.types (0 + k) =
-        λ k vi at.
-        let here : k ≡ 0 + k = omega arith in
-        subst (λ n. a.types n ≡ b.types n) here (one_typing h.vis vi (a.types k) (b.types k) (none k vi at) (a.typing k vi at) (b.typing k vi at)) in
+    λ k vi at.
+    let here : k ≡ 0 + k = omega arith in
+    subst (λ n. a.types n ≡ b.types n) here (one_typing h.vis vi (a.types k) (b.types k) (none k vi at) (a.typing k vi at) (b.typing k vi at)) in
     let vis = same_vis h.vis a.types b.types 0 h.vis typed in
     let links = same_linked (outlines_of h) main a.linked b.linked a.links b.links in
     a.program_is ∙ same_types h a.types b.types a.linked vis ∙ ap (program h b.types) links ∙ sym b.program_is

@@ -212,12 +212,11 @@ abbrev AreRead : List Ty → List Value → Type 0
 AreRead types vs = (map type_of vs ≡ types) × (All IsWholeType types → All IsWhole vs) × (list_all refers_to_none vs ≡ true)
 
 one_more : (t : Ty) (types : List Ty) (v : Value) (vs : List Value) → IsRead t v → AreRead types vs → AreRead (t ∷ types) (v ∷ vs)
-one_more t types v vs r rs =
-    (
-      ap (λ u. u ∷ map type_of vs) r.0 ∙ ap (λ l. t ∷ l) rs.0,
-      (λ l. All-cons IsWhole v vs (r.1 (All-head IsWholeType t types l)) (rs.1 (All-tail IsWholeType t types l))),
-      ap (λ b. b && list_all refers_to_none vs) r.2 ∙ rs.2,
-    )
+one_more t types v vs r rs = (
+  ap (λ u. u ∷ map type_of vs) r.0 ∙ ap (λ l. t ∷ l) rs.0,
+  (λ l. All-cons IsWhole v vs (r.1 (All-head IsWholeType t types l)) (rs.1 (All-tail IsWholeType t types l))),
+  ap (λ b. b && list_all refers_to_none vs) r.2 ∙ rs.2,
+)
 
 no_parts : AreRead [] []
 no_parts = (refl, (λ l. All-nil IsWhole), refl)
