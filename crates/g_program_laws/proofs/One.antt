@@ -1,5 +1,5 @@
 -- A hierarchy is one program.
-use Rattle.std.proofs.Common.{◌≡◌, ℕ, zero, suc, ◌+◌, List, [], ◌∷◌, map, refl, ap, sym, ◌∙◌, subst, arith}
+use Rattle.std.proofs.Common.{◌≡◌, ℕ, suc, ◌+◌, List, [], ◌∷◌, map, refl, ap, sym, ◌∙◌, subst, arith}
 use Rattle.std.specs.Prelude.{slice_get, Some}
 use Rattle.g_diagram.specs.declared.hierarchy.Hierarchy.{Hierarchy}
 use Rattle.g_diagram.specs.declared.hierarchy.Vi.{Vi}
@@ -10,7 +10,6 @@ use Rattle.g_hier.specs.declared.linked.Outline.{Outline}
 use Rattle.g_hier.specs.LinkOrder.{IsLinked, vis_after}
 use Rattle.g_hier.specs.Outlines.{outlines_of}
 use Rattle.g_typing.specs.Types.{Types}
-use Rattle.g_typing.specs.Typing.{IsTyping}
 use Rattle.g_typing.proofs.Agreed.{one_typing}
 use Rattle.g_typing_laws.specs.Typable.{NoneTurns}
 use Rattle.g_program_laws.specs.Laws.{ProgramsAreOne}
