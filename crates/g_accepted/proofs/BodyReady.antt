@@ -1,32 +1,21 @@
 -- The steps of a body in place: each waits for finitely many others alone.
-use Rattle.std.proofs.Common.{◌≡◌, ◌⊎◌, ◌<◌, ◌≤◌, inl, inr, ⊎_elim, ℕ, zero, suc, ◌+◌, nat_lt, Bool, true, false, cond, not, ◌&&◌, List, [], ◌∷◌, ◌++◌, map, filter, Option, Some, None, refl, ap, sym, ◌∙◌, subst, arith}
-use Rattle.std.proofs.lemmas.Bool.{false≢true, not-false}
+use Rattle.std.proofs.Common.{◌≡◌, ◌⊎◌, ◌<◌, inl, inr, ⊎_elim, ℕ, ◌+◌, nat_lt, Bool, true, false, cond, not, ◌&&◌, List, [], ◌∷◌, ◌++◌, map, Some, refl, ap, sym, ◌∙◌, subst, arith}
+use Rattle.std.proofs.lemmas.Bool.{false≢true}
 use Rattle.std.proofs.lemmas.Bool.Decides.{nat_tests}
 use Rattle.std.specs.List.{AllByRecursion}
 use Rattle.g_diagram.specs.declared.node.Tunnel.{Tunnel}
-use Rattle.g_diagram.specs.declared.hierarchy.Vi.{Vi}
-use Rattle.g_diagram.specs.Leads.{Walk, Leads}
-use Rattle.g_diagram.specs.Lines.{Wire, Arm, Part, Entry, Kind, Const, Apply, Shows, Shared, Obtain, Read, Write, Call, Loop, Case, Sequence, InPlace, entries_of}
-use Rattle.g_diagram.specs.Operands.{Side, Outside, Inside, Before, Operand, Line, Freedom, source, consumer, free_consumer, border, case_border, plain_line, border_lines, parts_lines, give_line, header_line, kind_lines, entries_lines, control_lines}
-use Rattle.g_diagram.specs.Ports.{Port, ports_in, ports_of, freedom, has_wire}
-use Rattle.g_typing.specs.Types.{Types}
-use Rattle.g_typing.proofs.Founded.{Ends, ends, all_end, leads_on}
-use Rattle.g_typing.proofs.Joined.{HasOperand, operand_left, HasPort, HasLine, line_left, line_right, port_of, joined}
-use Rattle.g_typing.proofs.Nesting.{nested, line_count}
-use Rattle.g_typing.proofs.Ready.{IsNested}
+use Rattle.g_diagram.specs.Lines.{Wire, Arm, Part, Entry, Kind, Const, Apply, Shows, Shared, Obtain, Read, Write, Call, Loop, Case, Sequence, InPlace}
+use Rattle.g_diagram.specs.Operands.{Side, Outside, Inside, Before, Operand, Line, Freedom, source, consumer, free_consumer, border, case_border, border_lines, parts_lines, give_line, kind_lines}
+use Rattle.g_typing.proofs.Joined.{HasOperand, HasLine}
 use Rattle.g_typing.proofs.Roles.{bodies}
 use Rattle.g_border.specs.declared.place.WireSource.{WireSource}
-use Rattle.g_border.specs.Readers.{source_of, is_on, sources_on, place_all, lines_sources, wires_taken, wires_taken_on, inputs_of, node_lines}
+use Rattle.g_border.specs.Readers.{is_on, sources_on, place_all, lines_sources, wires_taken, wires_taken_on, inputs_of, node_lines}
 use Rattle.g_border.specs.Bodies.{in_diagram, arms_read, inside_of}
-use Rattle.g_frames.specs.Program.{FlatVi}
-use Rattle.g_typed_states.specs.Places.{Among, node_places, lines_places}
-use Rattle.g_typed_states.specs.Bodies.{BodyStep, kind_body_steps, body_steps, steps_in, Feeds, Comes, comes}
-use Rattle.g_accepted.proofs.Facts.{IsIn, in_left, in_right, in_either, and_first, and_second, of_one, some_same}
-use Rattle.g_accepted.proofs.Laid.{lines_once}
-use Rattle.g_accepted.proofs.Placed.{flat, lines}
-use Rattle.g_accepted.proofs.Sources.{OperandAt, IsSide, at_own_line}
-use Rattle.g_accepted.proofs.Structures.{from_among, to_among}
-use Rattle.g_accepted.proofs.Supplied.{IsLineOf, lines_of_kind, border_sources, case_border_sources, one_owner, inner_after, to_of}
+use Rattle.g_typed_states.specs.Places.{lines_places}
+use Rattle.g_typed_states.specs.Bodies.{BodyStep, kind_body_steps, body_steps}
+use Rattle.g_accepted.proofs.Facts.{IsIn, in_left, in_right, in_either, and_first, and_second, of_one}
+use Rattle.g_accepted.proofs.Sources.{OperandAt}
+use Rattle.g_accepted.proofs.Supplied.{IsLineOf, lines_of_kind, border_sources, case_border_sources}
 use Rattle.g_accepted.proofs.Owners.{sources_append, case_inside_sources}
 
 -- ---- nodes between two lines

@@ -1,12 +1,10 @@
 -- In a body in place no step waits for itself: each step's turn comes.
-use Rattle.std.proofs.Common.{◌≡◌, ◌⊎◌, ◌<◌, ◌≤◌, inl, inr, ⊎_elim, ℕ, zero, suc, ◌+◌, Bool, true, false, List, [], ◌∷◌, ◌++◌, map, Option, Some, None, refl, ap, sym, ◌∙◌, subst, arith}
-use Rattle.std.specs.List.{AllByRecursion}
-use Rattle.g_diagram.specs.declared.node.Tunnel.{Tunnel}
+use Rattle.std.proofs.Common.{◌≡◌, ◌<◌, ◌≤◌, inl, inr, ⊎_elim, ℕ, zero, suc, ◌+◌, Bool, true, false, List, [], ◌∷◌, ◌++◌, Some, refl, ap, sym, ◌∙◌, subst, arith}
 use Rattle.g_diagram.specs.declared.hierarchy.Vi.{Vi}
-use Rattle.g_diagram.specs.Leads.{Walk, Leads}
-use Rattle.g_diagram.specs.Lines.{Entry, Kind, entries_of}
+use Rattle.g_diagram.specs.Leads.{Leads}
+use Rattle.g_diagram.specs.Lines.{Entry, entries_of}
 use Rattle.g_diagram.specs.Operands.{Side, Outside, Inside, Operand, Line, Freedom, kind_lines, entries_lines, control_lines}
-use Rattle.g_diagram.specs.Ports.{Port, ports_in, ports_of, freedom, has_wire}
+use Rattle.g_diagram.specs.Ports.{Port, ports_of, freedom, has_wire}
 use Rattle.g_typing.specs.Types.{Types}
 use Rattle.g_typing.proofs.Founded.{Ends, ends, all_end, leads_on}
 use Rattle.g_typing.proofs.Joined.{HasOperand, HasPort, HasLine, line_left, line_right, port_of, joined}
@@ -17,13 +15,12 @@ use Rattle.g_border.specs.declared.place.WireSource.{WireSource}
 use Rattle.g_border.specs.Readers.{source_of, lines_sources}
 use Rattle.g_border.specs.Bodies.{inside_of}
 use Rattle.g_frames.specs.Program.{FlatVi}
-use Rattle.g_typed_states.specs.Places.{Among}
-use Rattle.g_typed_states.specs.Bodies.{BodyStep, kind_body_steps, body_steps, steps_in, Feeds, Comes, comes}
-use Rattle.g_accepted.proofs.Facts.{IsIn, in_left, in_right, in_either, of_one}
+use Rattle.g_typed_states.specs.Bodies.{BodyStep, kind_body_steps, steps_in, Comes, comes}
+use Rattle.g_accepted.proofs.Facts.{IsIn, in_left, in_right, of_one}
 use Rattle.g_accepted.proofs.Laid.{lines_once}
 use Rattle.g_accepted.proofs.Placed.{flat, lines}
-use Rattle.g_accepted.proofs.Sources.{OperandAt, IsSide, at_own_line}
-use Rattle.g_accepted.proofs.Structures.{from_among, to_among}
+use Rattle.g_accepted.proofs.Sources.{IsSide, at_own_line}
+use Rattle.g_accepted.proofs.Structures.{from_among}
 use Rattle.g_accepted.proofs.Supplied.{IsLineOf, lines_of_kind, one_owner, inner_after, to_of, to_body}
 use Rattle.g_accepted.proofs.BodyReady.{of_range, step_origin, OfSources, of_lines_sources, has_operand, at_in, own_nodes, ReadsOut, StepRole, opens, closes, step_role}
 

@@ -1,5 +1,5 @@
 -- Where the types of a VI's wires break none of the rules on types, no node has a place that breaks one.
-use Rattle.std.proofs.Common.{◌≡◌, inl, inr, ℕ, zero, suc, ◌+◌, Bool, true, false, List, [], ◌∷◌, ◌++◌, map, length, Option, Some, None, refl, ap, sym, arith}
+use Rattle.std.proofs.Common.{◌≡◌, ℕ, zero, suc, ◌+◌, Bool, true, false, List, [], ◌∷◌, ◌++◌, map, length, Option, Some, None, refl, ap, arith}
 use Rattle.std.specs.Prelude.{if◌then◌else◌, slice_get}
 use Rattle.std.specs.List.{AllByRecursion, Contains, list_all}
 use Rattle.std.proofs.lemmas.List.Elements.{Contains-append_left, Contains-append_right}
@@ -9,7 +9,7 @@ use Rattle.g_values.specs.declared.primitive.Primitive.{Primitive}
 use Rattle.g_operations.specs.declared.shared.SharedOp.{SharedOp}
 use Rattle.g_operations.specs.declared.shared.SharedOp.TheVariants as shared
 use Rattle.g_prims_definitions.specs.Kinds.{is_assignable, is_bool, part}
-use Rattle.g_prims_definitions.specs.Rows.{row_of, first_refused, is_shallow, is_element}
+use Rattle.g_prims_definitions.specs.Rows.{row_of, is_shallow, is_element}
 use Rattle.g_diagram.specs.declared.place.Break.{Break}
 use Rattle.g_diagram.specs.declared.place.Place.{Place}
 use Rattle.g_diagram.specs.declared.hierarchy.Hierarchy.{Hierarchy}
@@ -19,7 +19,7 @@ use Rattle.g_diagram.specs.declared.node.Tunnel.{Tunnel}
 use Rattle.g_diagram.specs.declared.node.Tunnel.TheVariants as line
 use Rattle.g_diagram.specs.declared.panel.PanelItem.{PanelItem}
 use Rattle.g_diagram.specs.declared.panel.PanelItem.TheVariants.{Control, Indicator}
-use Rattle.g_diagram.specs.Lines.{Wire, Arm, Entry, Kind, Const, Apply, Shows, Shared, Obtain, Read, Write, Call, Loop, Case, Sequence, InPlace, entries_of}
+use Rattle.g_diagram.specs.Lines.{Wire, Arm, Entry, Kind, Const, Apply, Shows, Shared, Obtain, Write, Call, Loop, Case, InPlace, entries_of}
 use Rattle.g_typing.specs.Types.{Types, place, wire_type, wire_types, wire_at, or_unwired, then_type, element, queued, referred}
 use Rattle.g_typing.specs.Typing.{Callees, Objects, IsTyping, called_panel, panel_type, is_result, result_type, next_result, control_types}
 use Rattle.g_typing.specs.Rows.{unless, may_be, has_elements, names_value, has_part, outputs_fit, row_misses, primitive_misses, fits_shared, line_misses, lines_miss, stop_operand, kind_misses, entry_misses, rowless}
@@ -27,7 +27,6 @@ use Rattle.g_typing.specs.Literals.{is_value_of, is_default_of, may_select, sele
 use Rattle.g_typing.specs.Assigned.{unlike, inputs_unlike, line_unlike, lines_unlike, gives_unlike, result_unlike, results_unlike, shared_unlike, kind_unlike, unassignable}
 use Rattle.g_typing.specs.Selected.{selectors_of, is_complete, uncovered, kind_unselected, unselected}
 use Rattle.g_typing.specs.Breaks.{broken, breaks_with, TypeBreak}
-use Rattle.g_accepted.proofs.Facts.{IsIn}
 
 -- places of one VI
 abbrev AreAt : (vi : ℕ) → List Place → Type 0

@@ -1,20 +1,19 @@
 -- What stands somewhere inside a structure in place: only nodes that may, and none with a reference of its own.
-use Rattle.std.proofs.Common.{◌≡◌, ◌⊎◌, inl, inr, ⊎_elim, ℕ, zero, suc, ◌+◌, ◌<◌, ◌≤◌, ◌==◌, Bool, true, false, cond, not, ◌&&◌, ◌||◌, List, [], ◌∷◌, ◌++◌, map, filter, length, Some, None, refl, ap, sym, ◌∙◌, subst, arith}
-use Rattle.std.specs.Prelude.{if◌then◌else◌}
-use Rattle.std.specs.List.{AllByRecursion, list_any, flat_map}
-use Rattle.std.proofs.lemmas.Bool.{eqb-true, false≢true, not-false, or_cases}
+use Rattle.std.proofs.Common.{◌≡◌, ◌⊎◌, inl, inr, ⊎_elim, ℕ, zero, suc, ◌+◌, ◌<◌, ◌≤◌, ◌==◌, Bool, true, false, not, ◌&&◌, ◌||◌, List, [], ◌∷◌, ◌++◌, map, filter, length, refl, ap, sym, ◌∙◌, subst, arith}
+use Rattle.std.specs.List.{list_any, flat_map}
+use Rattle.std.proofs.lemmas.Bool.{false≢true, not-false}
 use Rattle.g_diagram.specs.declared.node.Tunnel.{Tunnel}
 use Rattle.g_diagram.specs.declared.hierarchy.Vi.{Vi}
-use Rattle.g_diagram.specs.Lines.{Wire, Arm, Part, Entry, Kind, Const, Apply, Shows, Shared, Obtain, Read, Write, Call, Loop, Case, Sequence, InPlace, entries_of, count_of, lines_of}
+use Rattle.g_diagram.specs.Lines.{Entry, Kind, Const, Apply, Shows, Shared, Obtain, Read, Write, Call, Loop, Case, Sequence, InPlace, entries_of, count_of, lines_of}
 use Rattle.g_rules_lines.specs.Spots.{Spot, whole}
 use Rattle.g_rules_lines.specs.InPlaceBodies.{diagrams_in, is_case, is_in_place, may_stand_in_place, Diagrams, no_diagrams, with_node, gathered, has_body, is_inside, insides, strangers, spare_refs, kind_spare_refs, all_spare_refs, misplaced}
 use Rattle.g_rules_lines.specs.InPlaceBodies as rule
 use Rattle.g_typing.proofs.Roles.{nothing, bodies}
 use Rattle.g_infer_laws.proofs.Rules.{none_kept}
-use Rattle.g_accepted.proofs.Facts.{IsIn, in_left, in_right, in_either, nil_left, nil_right, of_one, same_number, and_first, and_second, and_both}
+use Rattle.g_accepted.proofs.Facts.{IsIn, in_right, in_either, nil_left, nil_right, of_one, same_number, and_both}
 use Rattle.g_accepted.proofs.Laid.{Rises, vi_rises}
 use Rattle.g_accepted.proofs.Linked.{any_in}
-use Rattle.g_accepted.proofs.Ranged.{IsApart, IsOwned}
+use Rattle.g_accepted.proofs.Ranged.{IsOwned}
 use Rattle.g_accepted.proofs.Inside.{NotShown, IsPlaced, placed, owner_of}
 use Rattle.g_accepted.proofs.Supplied.{one_owner}
 

@@ -1,5 +1,5 @@
 -- What a line gives to a name stands at a source of that line.
-use Rattle.std.proofs.Common.{◌≡◌, ◌⊎◌, inl, inr, ⊎_elim, ℕ, ◌+◌, Bool, true, false, List, [], ◌∷◌, ◌++◌, map, Option, Some, None, refl, ap, sym, ◌∙◌, subst}
+use Rattle.std.proofs.Common.{◌≡◌, inl, inr, ⊎_elim, ℕ, ◌+◌, Bool, true, false, List, [], ◌∷◌, ◌++◌, map, Option, Some, None, refl, ap, sym, ◌∙◌, subst}
 use Rattle.std.specs.Prelude.{is_some}
 use Rattle.g_types.specs.declared.ty.Ty.{Ty}
 use Rattle.g_diagram.specs.declared.node.Tunnel.{Tunnel}
@@ -8,20 +8,20 @@ use Rattle.g_diagram.specs.declared.panel.PanelItem.{PanelItem}
 use Rattle.g_diagram.specs.declared.panel.PanelItem.TheVariants.{Control, Indicator}
 use Rattle.g_diagram.specs.declared.hierarchy.Vi.{Vi}
 use Rattle.g_diagram.specs.Lines.{Wire, Arm, Part, Entry, Kind, Const, Apply, Shows, Shared, Obtain, Read, Write, Call, Loop, Case, Sequence, InPlace, entries_of}
-use Rattle.g_diagram.specs.Operands.{Side, Outside, Inside, Operand, Line, Freedom, source, free_source, consumer, border, case_border, plain_line, header_line, border_lines, parts_lines, give_line, call_inputs, in_and_out, loop_header, kind_lines, entries_lines, control_line, control_lines}
+use Rattle.g_diagram.specs.Operands.{Outside, Inside, Operand, Line, Freedom, source, free_source, consumer, border, case_border, plain_line, header_line, border_lines, parts_lines, give_line, call_inputs, in_and_out, loop_header, kind_lines, entries_lines, control_line, control_lines}
 use Rattle.g_diagram.specs.Ports.{ports_in, ports_of, freedom}
 use Rattle.g_typing.specs.Types.{Types}
-use Rattle.g_typing.specs.Typing.{Given, Callees, Objects, IsGivenTo, given, given_each, line_inside, line_outside, lines_inside, lines_outside, result_given, next_result, controls_given, called_panel, panel_type}
+use Rattle.g_typing.specs.Typing.{Callees, Objects, IsGivenTo, given, given_each, line_inside, line_outside, lines_inside, lines_outside, result_given, next_result, controls_given, called_panel, panel_type}
 use Rattle.g_typing.proofs.Unique.{Step}
-use Rattle.g_typing.proofs.Steps.{arms_steps, results_steps, parts_steps, loop_steps, kind_steps, steps_append}
+use Rattle.g_typing.proofs.Steps.{arms_steps, results_steps, parts_steps, kind_steps}
 use Rattle.g_typing.proofs.Only.{vi_steps, entries_steps}
 use Rattle.g_typing.proofs.Only as only
 use Rattle.g_typing.proofs.Roles.{nothing, given_at, given_append}
 use Rattle.g_typing.proofs.NodeRoles.{in_append}
 use Rattle.g_typing.proofs.Names.{Giver}
 use Rattle.g_border.specs.Readers.{source_of}
-use Rattle.g_accepted.proofs.Facts.{IsIn, in_left, in_right, in_map, none_some, some_same}
-use Rattle.g_accepted.proofs.Sources.{OperandAt, IsSide, SourceOn, source_there}
+use Rattle.g_accepted.proofs.Facts.{IsIn, in_left, in_right, in_map}
+use Rattle.g_accepted.proofs.Sources.{OperandAt, IsSide, source_there}
 
 -- a source of a name at a line
 pub record OnLine (d : ℕ) (n : List ℕ) (l : Line) : Type 0 where

@@ -1,5 +1,5 @@
 -- How the nodes of a whole VI lie in one another.
-use Rattle.std.proofs.Common.{◌≡◌, ◌⊎◌, inl, inr, ⊎_elim, ℕ, suc, ◌+◌, ◌<◌, ◌≤◌, List, [], ◌∷◌, ◌++◌, map, length, Some, None, refl, ap, sym, ◌∙◌, subst, arith}
+use Rattle.std.proofs.Common.{◌≡◌, ◌⊎◌, inl, inr, ⊎_elim, ℕ, suc, ◌+◌, ◌<◌, List, [], ◌∷◌, map, length, Some, None, refl, ap, sym, subst, arith}
 use Rattle.g_types.specs.declared.ty.Ty.{Ty}
 use Rattle.g_diagram.specs.declared.node.Tunnel.{Tunnel}
 use Rattle.g_diagram.specs.declared.node.Node.{Node}
@@ -16,7 +16,7 @@ use Rattle.g_diagram.specs.Lines.{Wire, Lines, BranchLines, FrameLines, Entry, K
 use Rattle.g_diagram.specs.Lines as kind
 use Rattle.g_diagram.proofs.LineLemmas.{diagram_lines, branch_lines, frame_lines, case_lines, sequence_lines, lines-diagram, lines-branch, lines-frame, in_turn}
 use Rattle.g_typing.proofs.Roles.{bodies}
-use Rattle.g_accepted.proofs.Facts.{IsIn, in_left, in_right, in_either}
+use Rattle.g_accepted.proofs.Facts.{IsIn, in_right, in_either}
 use Rattle.g_accepted.proofs.Ranged.{IsApart, before_it, IsOwned, Ranged, wider, Only, Nowhere, node_first, Good, one_good, AllGood, all_good, loop_good, AllBranches, branch_bodies, branches_ranged, AllFrames, frame_bodies, frames_ranged}
 
 -- no node of a diagram is an indicator

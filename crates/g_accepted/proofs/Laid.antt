@@ -1,5 +1,5 @@
 -- The lines of a VI: each that has operands has a number of its own, and its nodes stand by line.
-use Rattle.std.proofs.Common.{◌≡◌, inl, inr, ℕ, suc, ◌+◌, ◌<◌, ◌≤◌, ◌==◌, Bool, true, false, List, [], ◌∷◌, ◌++◌, map, length, refl, ap, sym, ◌∙◌, subst, arith}
+use Rattle.std.proofs.Common.{◌≡◌, inl, inr, ℕ, suc, ◌+◌, ◌<◌, ◌≤◌, ◌==◌, Bool, true, false, List, [], ◌∷◌, ◌++◌, map, length, refl, ap, sym, subst, arith}
 use Rattle.std.specs.Prelude.{Some, None, ◌⊎◌}
 use Rattle.g_diagram.specs.declared.node.Tunnel.{Tunnel}
 use Rattle.g_diagram.specs.declared.node.Node.{Node}
@@ -15,7 +15,6 @@ use Rattle.g_diagram.specs.declared.hierarchy.Vi.{Vi}
 use Rattle.g_diagram.specs.Lines.{Wire, Lines, BranchLines, FrameLines, Arm, Entry, Kind, entry, one_line, loop_lines, in_order, count_of, entries_in, give_lines, branch_count, branches_count, branches_entries, arms, frame_count, frames_count, frames_entries, parts, lines_of, node_step, branch_step, diagram_step, frame_step, nodes_entries, panel_entries, entries_of, Case, Sequence}
 use Rattle.g_diagram.specs.Lines as kind
 use Rattle.g_diagram.specs.Operands.{Operand, Outside, Inside, Line, Freedom, source, consumer, free_consumer, border, case_border, plain_line, header_line, border_lines, parts_lines, give_line, call_inputs, in_and_out, loop_header, kind_lines, entries_lines, control_line, control_lines}
-use Rattle.g_diagram.specs.Ports.{freedom}
 use Rattle.g_diagram.proofs.LineLemmas.{diagram_lines, branch_lines, frame_lines, case_lines, sequence_lines, lines-diagram, lines-branch, lines-frame, in_turn}
 use Rattle.g_accepted.proofs.Spans.{Spans, nowhere, wider, alike, both}
 

@@ -1,10 +1,9 @@
 -- What a node has in a VI whose types break no rule, kind by kind.
-use Rattle.std.proofs.Common.{◌≡◌, ◌≤◌, inl, inr, ⊎_elim, ℕ, ℤ, zero, suc, ◌+◌, Bool, true, false, cond, ◌||◌, List, [], ◌∷◌, ◌++◌, map, length, Option, Some, None, refl, ap, sym, ◌∙◌, subst, arith}
-use Rattle.std.specs.Prelude.{is_some, nat_le, slice_get, if◌then◌else◌}
-use Rattle.std.specs.List.{AllByRecursion, All, list_all}
+use Rattle.std.proofs.Common.{◌≡◌, ◌≤◌, inl, inr, ℕ, ℤ, ◌+◌, Bool, true, false, List, [], ◌∷◌, ◌++◌, map, length, Option, Some, None, refl, ap, sym, ◌∙◌, subst, arith}
+use Rattle.std.specs.Prelude.{is_some, nat_le, if◌then◌else◌}
+use Rattle.std.specs.List.{AllByRecursion, list_all}
 use Rattle.std.proofs.lemmas.Bool.{false≢true}
 use Rattle.std.proofs.lemmas.Bool.Decides.{nat_tests}
-use Rattle.std.proofs.lemmas.List.{append-nil}
 use Rattle.g_types.specs.declared.ty.Ty.{Ty, out-Ty}
 use Rattle.g_types.specs.declared.ty.Ty.TheOpen.{Ty-F}
 use Rattle.g_types.specs.declared.ty.Ty.TheVariants as ty
@@ -17,7 +16,7 @@ use Rattle.g_operations.specs.declared.shared.SharedOp.{SharedOp}
 use Rattle.g_operations.specs.declared.shared.SharedOp.TheVariants as shared
 use Rattle.g_operations.specs.Rows.{fits, shared_row}
 use Rattle.g_prims_definitions.specs.Kinds.{is_assignable, part, item_at}
-use Rattle.g_prims_definitions.specs.Rows.{row_of, is_shallow, is_element}
+use Rattle.g_prims_definitions.specs.Rows.{row_of, is_shallow}
 use Rattle.g_diagram.specs.declared.place.Place.{Place}
 use Rattle.g_diagram.specs.declared.panel.Lit.{Lit}
 use Rattle.g_diagram.specs.declared.panel.PanelItem.{PanelItem}
@@ -25,27 +24,26 @@ use Rattle.g_diagram.specs.declared.panel.PanelItem.TheVariants.{Control, Indica
 use Rattle.g_diagram.specs.declared.hierarchy.Vi.{Vi}
 use Rattle.g_diagram.specs.declared.node.Tunnel.{Tunnel}
 use Rattle.g_diagram.specs.declared.node.Tunnel.TheVariants as line
-use Rattle.g_diagram.specs.Lines.{Wire, Arm, Part, Entry, Kind, Const, Apply, Shows, Shared, Obtain, Read, Write, Call, Loop, Case, Sequence, InPlace, entries_of}
-use Rattle.g_diagram.specs.Operands.{Side, Outside, Inside, Operand, Line, Freedom, source, consumer, free_consumer, border, case_border, plain_line, header_line, border_lines, parts_lines, give_line, call_inputs, in_and_out, loop_header, kind_lines, entries_lines}
-use Rattle.g_diagram.specs.Ports.{ports_of, freedom}
-use Rattle.g_typing.specs.Types.{Types, place, wire_type, both, wire_types, wire_at, or_unwired, then_type, element, queued, queued_at, referred, referred_at, whole}
-use Rattle.g_typing.specs.Typing.{Given, Callees, Objects, HasGiven, given, given_each, known_or_none, with_code, row_after, shared_after, shared_types, line_inside, line_outside, lines_inside, lines_outside, border_given, arms_inside, results_given, result_given, parts_given, result_type, next_result, is_result, kind_given, panel_type, called_panel, control_types, indicator_types}
-use Rattle.g_typing.specs.Rows.{may_be, unless, has_elements, names_value, names_queue, has_part, outputs_fit, row_misses, primitive_misses, fits_shared, line_misses, lines_miss, stop_operand, kind_misses}
+use Rattle.g_diagram.specs.Lines.{Wire, Entry, Kind, Const, Apply, Shows, Shared, Obtain, Read, Write, Call}
+use Rattle.g_diagram.specs.Operands.{Outside, Inside, Operand, Line, source, consumer, border, plain_line, border_lines, call_inputs, in_and_out, kind_lines}
+use Rattle.g_diagram.specs.Ports.{freedom}
+use Rattle.g_typing.specs.Types.{Types, place, wire_type, both, wire_types, wire_at, then_type, element, queued, referred, referred_at, whole}
+use Rattle.g_typing.specs.Typing.{HasGiven, given, given_each, known_or_none, with_code, row_after, shared_after, shared_types, line_inside, line_outside, lines_inside, lines_outside, kind_given, panel_type, called_panel, control_types, indicator_types}
+use Rattle.g_typing.specs.Rows.{unless, has_elements, names_value, has_part, row_misses, primitive_misses, fits_shared, line_misses, lines_miss, kind_misses}
 use Rattle.g_typing.specs.Literals.{is_value_of, kind_mistakes}
-use Rattle.g_typing.specs.Assigned.{unlike, inputs_unlike, line_unlike, lines_unlike, gives_unlike, result_unlike, results_unlike, shared_unlike, kind_unlike}
+use Rattle.g_typing.specs.Assigned.{unlike, inputs_unlike, line_unlike, lines_unlike, shared_unlike, kind_unlike}
 use Rattle.g_typing.specs.Selected.{kind_unselected}
 use Rattle.g_border.specs.Readers.{sources_on, place_all, lines_sources}
 use Rattle.g_frames.specs.Program.{FlatVi}
-use Rattle.g_listing_grammar.specs.Nodes.{results}
-use Rattle.g_listing_laws.specs.Spelled.{IsKindSpelled, IsLineSpelled, IsArmSpelled}
-use Rattle.g_infer_laws.specs.OwnLines.{is_loop_line, is_case_line, is_frame_line, is_place_line, have_frame_lines, has_own_lines}
+use Rattle.g_listing_laws.specs.Spelled.{IsKindSpelled, IsLineSpelled}
+use Rattle.g_infer_laws.specs.OwnLines.{has_own_lines}
 use Rattle.g_infer_laws.proofs.Rules.{Fed}
-use Rattle.g_infer_laws.proofs.Held.{OperandsHold, LineHolds, LinesHold}
+use Rattle.g_infer_laws.proofs.Held.{OperandsHold, LinesHold}
 use Rattle.g_typed_states.specs.Places.{HaveTypes, node_places}
-use Rattle.g_typed_states.specs.Lines.{IsAssignable, types_inside, types_outside, types_in_place, types_of_result, LineFits, LinesInside, LinesOutside, LinesFit, ResultsOutside, GivesFit, ArgumentFits, ArgumentsFit}
-use Rattle.g_typed_states.specs.Accepted.{AcceptsConst, AcceptsApply, PutFits, AcceptsShared, AcceptsObtain, AllGivesFit}
-use Rattle.g_accepted.proofs.Facts.{IsIn, in_left, in_right, all_left, all_right, nil_left, nil_right, and_first, and_second, some_same, none_some, the_one, is_there}
-use Rattle.g_accepted.proofs.Placed.{flat, lines, line_typed, plain_typed, TypesOn, named, outputs_typed, after_inputs, after_call, call_sources, case_sources, inside_typed, is_plain_line, outside_typed}
+use Rattle.g_typed_states.specs.Lines.{IsAssignable, types_inside, types_outside, LineFits, LinesInside, LinesOutside, LinesFit, ArgumentFits, ArgumentsFit}
+use Rattle.g_typed_states.specs.Accepted.{AcceptsConst, AcceptsApply, PutFits, AcceptsShared, AcceptsObtain}
+use Rattle.g_accepted.proofs.Facts.{IsIn, all_left, all_right, nil_left, nil_right, and_first, and_second, some_same, the_one}
+use Rattle.g_accepted.proofs.Placed.{flat, lines, line_typed, plain_typed, named, outputs_typed, after_inputs, after_call, call_sources, inside_typed, is_plain_line, outside_typed}
 
 pub shallow_depth : (t : Ty) → is_shallow t ≡ true → depth t ≤ 7
 shallow_depth t h = short (depth t) h

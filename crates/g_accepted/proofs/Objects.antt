@@ -1,14 +1,11 @@
 -- The VIs of a program, and its queues, references, kept registers and pools: what stands there, and where it is found.
-use Rattle.std.proofs.Common.{◌≡◌, ◌⊎◌, inl, inr, ⊎_elim, ℕ, zero, suc, ◌+◌, ◌<◌, ◌==◌, Bool, true, false, cond, not, ◌&&◌, ◌||◌, List, [], ◌∷◌, ◌++◌, map, length, Option, Some, None, refl, ap, sym, ◌∙◌, subst, arith}
+use Rattle.std.proofs.Common.{◌≡◌, ◌⊎◌, inl, inr, ⊎_elim, ℕ, zero, suc, ◌+◌, ◌==◌, Bool, true, false, cond, not, ◌&&◌, ◌||◌, List, [], ◌∷◌, map, Option, Some, None, refl, ap, sym, ◌∙◌, subst, arith}
 use Rattle.std.specs.Prelude.{is_some, slice_get, if◌then◌else◌}
-use Rattle.std.specs.Option.{option_map, option_map_or, option_to_list}
-use Rattle.std.specs.List.{list_any, AllByRecursion}
+use Rattle.std.specs.Option.{option_map_or}
 use Rattle.std.specs.Str.{bytes_eq}
-use Rattle.std.proofs.lemmas.Bool.{eqb-true, false≢true, or_cases}
-use Rattle.std.proofs.lemmas.Slice.Eq.{bytes_eq-Decides}
-use Rattle.g_types.specs.declared.ty.Ty.{Ty}
+use Rattle.std.proofs.lemmas.Bool.{or_cases}
 use Rattle.g_diagram.specs.declared.hierarchy.Vi.{Vi}
-use Rattle.g_diagram.specs.Lines.{Entry, Kind, entries_of}
+use Rattle.g_diagram.specs.Lines.{Entry}
 use Rattle.g_diagram.specs.Ports.{first_vi}
 use Rattle.g_hier.specs.declared.linked.Space.{Space}
 use Rattle.g_hier.specs.Outlines.{number_of}
@@ -16,8 +13,7 @@ use Rattle.g_hier.specs.LinkOrder.{has_vi}
 use Rattle.g_typing.specs.Types.{Types}
 use Rattle.g_frames.specs.declared.program.QueueName.{QueueName}
 use Rattle.g_frames.specs.Program.{FlatVi, flat_vi, flat_vis, numbered, all_on, queue_on, queues_in, has_queue, first_of_each, in_spaces, pools_in, takes_clone}
-use Rattle.g_accepted.proofs.Facts.{IsIn, in_left, in_right, in_either, in_get, and_first, and_second, and_both, same_number, same_name, some_same, none_some}
-use Rattle.g_accepted.proofs.Linked.{any_in}
+use Rattle.g_accepted.proofs.Facts.{IsIn, in_left, in_right, in_either, same_name, some_same, none_some}
 
 -- ---- VIs
 

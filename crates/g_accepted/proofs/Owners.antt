@@ -1,18 +1,18 @@
 -- The names of a diagram inside have their sources at what its structure's lines give there, or at nodes of the diagram.
-use Rattle.std.proofs.Common.{◌≡◌, ◌⊎◌, ◌<◌, inl, inr, ⊎_elim, ℕ, suc, ◌+◌, Bool, true, false, List, [], ◌∷◌, ◌++◌, map, Option, Some, None, refl, ap, sym, ◌∙◌, subst, append_assoc, arith}
+use Rattle.std.proofs.Common.{◌≡◌, ◌<◌, inl, inr, ⊎_elim, ℕ, ◌+◌, true, List, [], ◌∷◌, ◌++◌, map, Option, Some, None, refl, ap, sym, ◌∙◌, subst, append_assoc, arith}
 use Rattle.g_diagram.specs.declared.node.Tunnel.{Tunnel}
 use Rattle.g_diagram.specs.declared.hierarchy.Vi.{Vi}
-use Rattle.g_diagram.specs.Lines.{Wire, Arm, Part, Entry, Kind, Loop, Case, Sequence, InPlace, entries_of}
-use Rattle.g_diagram.specs.Operands.{Inside, Operand, Line, Freedom, consumer, free_consumer, border, case_border, header_line, border_lines, parts_lines, give_line, loop_header, kind_lines}
+use Rattle.g_diagram.specs.Lines.{Wire, Arm, Part, Entry, Kind, Loop, Case, Sequence, entries_of}
+use Rattle.g_diagram.specs.Operands.{Inside, Operand, Line, Freedom, free_consumer, border, case_border, border_lines, parts_lines, give_line, loop_header, kind_lines}
 use Rattle.g_diagram.specs.Ports.{freedom}
 use Rattle.g_typing.specs.Types.{Types}
 use Rattle.g_typing.proofs.Roles.{bodies}
-use Rattle.g_typing.proofs.NodeRoles.{IsAfter, Rise, FramesRise}
+use Rattle.g_typing.proofs.NodeRoles.{Rise, FramesRise}
 use Rattle.g_typing.proofs.Nesting.{nested}
 use Rattle.g_border.specs.declared.place.WireSource.{WireSource}
 use Rattle.g_border.specs.Readers.{sources_on, place_all, lines_sources}
 use Rattle.g_typed_states.specs.Places.{lines_places, IsSupplied}
-use Rattle.g_accepted.proofs.Facts.{IsIn, in_left, in_right, in_either, in_map, some_same, none_some}
+use Rattle.g_accepted.proofs.Facts.{IsIn, in_either, in_map}
 use Rattle.g_accepted.proofs.Placed.{flat}
 use Rattle.g_accepted.proofs.Sources.{OperandAt}
 use Rattle.g_accepted.proofs.Supplied.{in_lines_sources, border_sources, case_border_sources, inside_supplied, to_of}

@@ -1,7 +1,7 @@
 -- The cells of a panel whose names differ have the types of its objects.
-use Rattle.std.proofs.Common.{◌≡◌, ◌⊎◌, inl, inr, ⊎_elim, ℕ, zero, suc, ◌+◌, Bool, true, false, cond, ◌||◌, List, [], ◌∷◌, ◌++◌, map, Option, Some, None, refl, ap, sym, ◌∙◌, subst}
+use Rattle.std.proofs.Common.{◌≡◌, ◌⊎◌, inl, inr, ⊎_elim, ℕ, suc, ◌+◌, Bool, true, false, cond, ◌||◌, List, [], ◌∷◌, ◌++◌, map, Some, None, refl, ap, sym, ◌∙◌, subst}
 use Rattle.std.specs.Prelude.{slice_get, if◌then◌else◌}
-use Rattle.std.specs.List.{list_any, AllByRecursion}
+use Rattle.std.specs.List.{list_any}
 use Rattle.std.specs.Str.{bytes_eq}
 use Rattle.std.proofs.lemmas.Bool.{false≢true}
 use Rattle.std.proofs.lemmas.List.{map-append}
@@ -10,13 +10,13 @@ use Rattle.std.proofs.lemmas.Slice.Eq.{bytes_eq-Decides}
 use Rattle.g_types.specs.declared.ty.Ty.{Ty}
 use Rattle.g_diagram.specs.declared.panel.PanelItem.{PanelItem}
 use Rattle.g_diagram.specs.declared.panel.PanelItem.TheVariants.{Control, Indicator}
-use Rattle.g_diagram.specs.Lines.{Wire, Entry, Kind, Shows, panel_entries}
+use Rattle.g_diagram.specs.Lines.{Entry, Shows, panel_entries}
 use Rattle.g_typing.specs.Typing.{panel_type, control_types, indicator_types}
 use Rattle.g_rules_lines.specs.PanelObjects.{panel_name}
 use Rattle.g_rules_lines.specs.RepeatedNames.{named_again}
-use Rattle.g_frames.specs.Panels.{control_names, indicator_names, place_of, cell_number}
+use Rattle.g_frames.specs.Panels.{control_names, indicator_names, place_of}
 use Rattle.g_typed_states.specs.Lines.{cell_type}
-use Rattle.g_accepted.proofs.Facts.{IsIn, in_left, in_right, in_either, nil_left, nil_right, same_name, some_same, none_some}
+use Rattle.g_accepted.proofs.Facts.{IsIn, in_left, in_right, in_either, nil_left, nil_right, some_same, none_some}
 
 -- ---- names that are used once
 

@@ -1,5 +1,5 @@
 -- The types of names by the places of their sources, from what lines give.
-use Rattle.std.proofs.Common.{◌≡◌, inl, inr, ℕ, ◌+◌, ◌≤◌, Bool, true, false, cond, ◌&&◌, List, [], ◌∷◌, ◌++◌, map, Option, Some, None, refl, ap, sym, ◌∙◌, subst}
+use Rattle.std.proofs.Common.{◌≡◌, inl, inr, ℕ, ◌+◌, Bool, true, false, cond, ◌&&◌, List, [], ◌∷◌, ◌++◌, map, Option, Some, None, refl, sym, subst}
 use Rattle.std.specs.Prelude.{is_some}
 use Rattle.std.specs.List.{AllByRecursion}
 use Rattle.std.proofs.lemmas.Bool.{false≢true}
@@ -11,13 +11,13 @@ use Rattle.g_diagram.specs.declared.hierarchy.Vi.{Vi}
 use Rattle.g_diagram.specs.Lines.{Wire, Entry, entries_of}
 use Rattle.g_diagram.specs.Operands.{Side, Outside, Inside, Before, Operand, Line, source, consumer, call_inputs, border, case_border, plain_line, entries_lines, control_lines}
 use Rattle.g_diagram.specs.Ports.{freedom}
-use Rattle.g_typing.specs.Types.{Types, wire_type}
-use Rattle.g_typing.specs.Typing.{Given, HasGiven, given, given_each, line_inside, line_outside}
+use Rattle.g_typing.specs.Types.{Types}
+use Rattle.g_typing.specs.Typing.{HasGiven, given, given_each, line_inside, line_outside}
 use Rattle.g_border.specs.declared.place.WireSource.{WireSource}
 use Rattle.g_border.specs.Readers.{source_of, is_on, sources_on, place_all}
 use Rattle.g_frames.specs.Program.{FlatVi, flat_vi}
 use Rattle.g_typed_states.specs.Places.{HaveTypes}
-use Rattle.g_typed_states.specs.Lines.{types_inside, types_outside, types_in_place}
+use Rattle.g_typed_states.specs.Lines.{types_inside, types_outside}
 use Rattle.g_accepted.proofs.Facts.{IsIn, all_left, all_right, and_second, some_same, none_some}
 use Rattle.g_accepted.proofs.Laid.{lines_once}
 use Rattle.g_accepted.proofs.Sources.{OperandAt, IsSide, at_own_line}

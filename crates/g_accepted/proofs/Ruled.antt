@@ -1,14 +1,13 @@
 -- What is known of a VI of a hierarchy in which none of the rules on names, lines and wires is broken.
-use Rattle.std.proofs.Common.{◌≡◌, inl, inr, ℕ, suc, ◌+◌, Bool, true, false, not, ◌||◌, List, [], ◌∷◌, ◌++◌, map, length, Option, Some, None, refl, ap, sym, ◌∙◌, subst}
+use Rattle.std.proofs.Common.{◌≡◌, inl, ℕ, true, false, ◌||◌, List, [], ◌∷◌, ◌++◌, map, length, Option, Some, None, refl, ap}
 use Rattle.std.specs.Prelude.{is_some, slice_get, if◌then◌else◌}
 use Rattle.std.specs.Option.{option_map}
-use Rattle.std.specs.List.{AllByRecursion}
 use Rattle.std.proofs.lemmas.Bool.{false≢true}
 use Rattle.g_diagram.specs.declared.place.Break.{Break}
 use Rattle.g_diagram.specs.declared.panel.PanelItem.{PanelItem}
 use Rattle.g_diagram.specs.declared.hierarchy.Hierarchy.{Hierarchy}
 use Rattle.g_diagram.specs.declared.hierarchy.Vi.{Vi}
-use Rattle.g_diagram.specs.Lines.{Entry, Kind, entries_of}
+use Rattle.g_diagram.specs.Lines.{Entry, entries_of}
 use Rattle.g_diagram.specs.Ports.{ports_of, first_vi}
 use Rattle.g_rules_breaks.specs.Breaks.{has_break}
 use Rattle.g_rules_breaks.proofs.Ordered.{same_itself}
@@ -17,14 +16,14 @@ use Rattle.g_rules_lines.specs.Arity.{miscounted}
 use Rattle.g_rules_lines.specs.CaseResults.{resultless}
 use Rattle.g_rules_lines.specs.CaseValues.{reselected}
 use Rattle.g_rules_lines.specs.InPlaceBodies.{misplaced}
-use Rattle.g_rules_lines.specs.Lists.{Known, known_of, called_by, structured_by, lined_by}
+use Rattle.g_rules_lines.specs.Lists.{Known, known_of, called_by, structured_by}
 use Rattle.g_rules_lines.specs.LoopCounts.{countless}
-use Rattle.g_rules_lines.specs.PanelObjects.{panel_name, names_object, unlocated}
+use Rattle.g_rules_lines.specs.PanelObjects.{panel_name}
 use Rattle.g_rules_lines.specs.Queues.{is_unequal, first_queue, all_queues, unequal}
-use Rattle.g_rules_lines.specs.RepeatedNames.{renamed_vis, renamed_items}
-use Rattle.g_rules_lines.specs.Spots.{Spot, break, spot_at, whole}
-use Rattle.g_rules_lines.specs.UnknownVis.{uncalled, absent_main}
-use Rattle.g_wires.specs.Breaks.{plain_in, each_from, plain_breaks, IsWiring}
+use Rattle.g_rules_lines.specs.RepeatedNames.{renamed_items}
+use Rattle.g_rules_lines.specs.Spots.{break, spot_at, whole}
+use Rattle.g_rules_lines.specs.UnknownVis.{absent_main}
+use Rattle.g_wires.specs.Breaks.{plain_breaks, IsWiring}
 use Rattle.g_infer_laws.proofs.Rules.{NoBreak, no_front, no_back, none_told, none_kept, none_lined, none_called}
 use Rattle.g_accepted.proofs.Facts.{IsIn, of_one}
 use Rattle.g_accepted.proofs.Panels.{one_of_name}

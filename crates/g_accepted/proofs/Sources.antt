@@ -1,14 +1,13 @@
 -- The source of a name stands at an operand of one line; where each line with operands has a number of its own, its place tells which.
-use Rattle.std.proofs.Common.{◌≡◌, ◌⊎◌, inl, inr, ⊎_elim, ℕ, suc, ◌+◌, ◌<◌, ◌≤◌, ◌==◌, Bool, true, false, cond, ◌&&◌, List, [], ◌∷◌, ◌++◌, map, Option, Some, None, refl, ap, sym, ◌∙◌, subst, arith}
+use Rattle.std.proofs.Common.{◌≡◌, ◌⊎◌, inl, inr, ⊎_elim, ℕ, ◌+◌, ◌<◌, ◌≤◌, ◌==◌, Bool, true, false, cond, ◌&&◌, List, [], ◌∷◌, map, Option, Some, None, refl, ap, sym, ◌∙◌, subst, arith}
 use Rattle.std.specs.Prelude.{is_some}
-use Rattle.std.specs.Str.{bytes_eq}
 use Rattle.std.proofs.lemmas.Bool.{eqb-true, false≢true}
 use Rattle.std.proofs.lemmas.Slice.Eq.{bytes_eq-Decides}
 use Rattle.g_diagram.specs.Lines.{Wire}
 use Rattle.g_diagram.specs.Operands.{Side, Outside, Inside, Before, Operand, Line}
 use Rattle.g_diagram.specs.Ports.{Port, port, ports_on, ports_from, ports_in, same_wire}
 use Rattle.g_border.specs.declared.place.WireSource.{WireSource}
-use Rattle.g_border.specs.Readers.{source_of, is_on, sources_on, place_all}
+use Rattle.g_border.specs.Readers.{source_of}
 use Rattle.g_accepted.proofs.Facts.{IsIn, in_left, in_right, in_either, same_number, same_name, and_first, and_second, and_both}
 use Rattle.g_accepted.proofs.Laid.{hit, line_hit, lines_at}
 

@@ -1,16 +1,14 @@
 -- What each data space of a program has of its nodes.
-use Rattle.std.proofs.Common.{◌≡◌, ◌⊎◌, inl, inr, ⊎_elim, ℕ, ℤ, zero, suc, ◌+◌, ◌<◌, ◌≤◌, ◌==◌, Bool, true, false, cond, not, ◌&&◌, ◌||◌, List, [], ◌∷◌, ◌++◌, map, length, Option, Some, None, refl, ap, sym, ◌∙◌, subst, arith}
+use Rattle.std.proofs.Common.{◌≡◌, inl, inr, ⊎_elim, ℕ, ℤ, suc, ◌+◌, ◌≤◌, ◌==◌, Bool, true, false, not, ◌&&◌, ◌||◌, List, [], ◌∷◌, map, Option, Some, None, refl, ap, sym, ◌∙◌, subst, arith}
 use Rattle.std.specs.Prelude.{is_some, slice_get, if◌then◌else◌}
-use Rattle.std.specs.Option.{option_map, option_map_or, option_to_list, option_or}
-use Rattle.std.specs.List.{list_any, flat_map}
+use Rattle.std.specs.Option.{option_map, option_to_list, option_or}
+use Rattle.std.specs.List.{flat_map}
 use Rattle.std.specs.Ordering.{int_eq}
 use Rattle.std.specs.Str.{bytes_eq}
-use Rattle.std.proofs.lemmas.Bool.{eqb-true, false≢true, or_cases, not-false}
-use Rattle.std.proofs.lemmas.Slice.Eq.{bytes_eq-Decides}
+use Rattle.std.proofs.lemmas.Bool.{eqb-true, false≢true, not-false}
 use Rattle.g_types.specs.declared.ty.Ty.{Ty}
 use Rattle.g_types.specs.Same.{same_type}
 use Rattle.g_types.proofs.SameLemmas.{same_type-true}
-use Rattle.g_operations.specs.declared.shared.SharedOp.{SharedOp}
 use Rattle.g_operations.specs.declared.shared.SharedOp.TheVariants as shared
 use Rattle.g_diagram.specs.declared.node.Tunnel.{Tunnel}
 use Rattle.g_diagram.specs.declared.node.Tunnel.TheVariants as line
@@ -30,14 +28,14 @@ use Rattle.g_hier.specs.declared.linked.Space.{Space}
 use Rattle.g_hier.specs.Outlines.{number_of, call_on, calls_on, outline_of, outlines_of, calls_in, calls_at}
 use Rattle.g_hier.specs.LinkOrder.{enterable, same_space, has_vi, vis_after}
 use Rattle.g_typing.specs.Types.{Types, wire_type, wire_at}
-use Rattle.g_border.specs.Loops.{kept_lines, kept_registers}
+use Rattle.g_border.specs.Loops.{kept_registers}
 use Rattle.g_frames.specs.declared.program.QueueName.{QueueName}
 use Rattle.g_frames.specs.declared.program.CellPlace.{CellPlace}
 use Rattle.g_frames.specs.declared.program.KeptPlace.{KeptPlace}
 use Rattle.g_frames.specs.Program as frames
 use Rattle.g_frames.specs.Program.{FlatVi, Program, flat_vi, flat_vis, vi_at, numbered, place_where, space_number, called_space, queue_object, kept_number, queue_on, first_of_each, has_queue, cell_of, cell_on, kept_on, program}
 use Rattle.g_typed_states.specs.Accepted.{HasCell, HasQueue, HasKept, HasSpace}
-use Rattle.g_accepted.proofs.Facts.{IsIn, in_left, in_right, in_either, in_get, get_in, in_map, of_map, and_first, and_second, and_both, same_number, same_name, some_same, none_some, the_one}
+use Rattle.g_accepted.proofs.Facts.{IsIn, in_left, in_right, in_get, in_map, of_map, and_first, and_second, and_both, same_number, same_name, some_same, none_some, the_one}
 use Rattle.g_accepted.proofs.Laid.{Rises, hit, lines_once, line_hit, vi_rises}
 use Rattle.g_accepted.proofs.Sources.{one_line}
 use Rattle.g_accepted.proofs.Linked.{found_where, any_in, InOrder, in_entered, placed_for, space_found, enterable_vi, vis_have}

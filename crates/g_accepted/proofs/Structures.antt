@@ -1,8 +1,8 @@
 -- What a structure has in a VI whose types break no rule.
-use Rattle.std.proofs.Common.{◌≡◌, ◌⊎◌, ◌≤◌, inl, inr, ⊎_elim, ℕ, zero, suc, ◌+◌, Bool, true, false, cond, not, ◌||◌, List, [], ◌∷◌, ◌++◌, map, length, Option, Some, None, refl, ap, sym, ◌∙◌, subst, arith}
-use Rattle.std.specs.Prelude.{is_some, slice_get, if◌then◌else◌}
+use Rattle.std.proofs.Common.{◌≡◌, ◌⊎◌, inl, inr, ⊎_elim, ℕ, zero, suc, ◌+◌, Bool, true, false, cond, not, ◌||◌, List, [], ◌∷◌, ◌++◌, map, length, Option, Some, None, refl, ap, sym, ◌∙◌, subst, arith}
+use Rattle.std.specs.Prelude.{is_some, if◌then◌else◌}
 use Rattle.std.specs.Option.{option_or}
-use Rattle.std.specs.List.{AllByRecursion, All, list_all, list_any}
+use Rattle.std.specs.List.{AllByRecursion, list_all, list_any}
 use Rattle.std.proofs.lemmas.Bool.{false≢true, or_cases}
 use Rattle.std.proofs.lemmas.List.Elements.{recursion_from_All}
 use Rattle.std.proofs.lemmas.List.Folds.{list_any-append}
@@ -15,19 +15,18 @@ use Rattle.g_diagram.specs.declared.node.Selector.{Selector}
 use Rattle.g_diagram.specs.declared.node.Tunnel.{Tunnel}
 use Rattle.g_diagram.specs.declared.node.Tunnel.TheVariants as line
 use Rattle.g_diagram.specs.Lines.{Wire, Arm, Part, Entry, Kind, Loop, Case, Sequence, InPlace}
-use Rattle.g_diagram.specs.Operands.{Side, Outside, Inside, Operand, Line, free_consumer, border, case_border, header_line, border_lines, parts_lines, give_line, loop_header, kind_lines}
-use Rattle.g_diagram.specs.Ports.{freedom}
+use Rattle.g_diagram.specs.Operands.{Side, Outside, Inside, Operand, Line, free_consumer, border, case_border, header_line, border_lines, parts_lines, give_line, loop_header}
 use Rattle.g_typing.specs.Types.{Types, place, wire_type, wire_at, or_unwired, then_type, whole}
-use Rattle.g_typing.specs.Typing.{HasGiven, given, line_inside, line_outside, lines_inside, lines_outside, border_given, arms_inside, results_given, result_given, parts_given, result_type, next_result, is_result}
-use Rattle.g_typing.specs.Rows.{unless, line_misses, lines_miss, stop_operand}
+use Rattle.g_typing.specs.Typing.{HasGiven, given, line_inside, line_outside, lines_inside, lines_outside, arms_inside, results_given, result_given, parts_given, result_type, next_result}
+use Rattle.g_typing.specs.Rows.{unless, lines_miss, stop_operand}
 use Rattle.g_types.specs.Ty.{is_num}
 use Rattle.g_prims_definitions.specs.Kinds.{is_bool}
 use Rattle.g_typing.specs.Literals.{may_select, if_selecting}
-use Rattle.g_typing.specs.Assigned.{unlike, lines_unlike, gives_unlike, result_unlike, results_unlike}
-use Rattle.g_typing.specs.Selected.{selectors_of, is_no, is_complete, uncovered, kind_unselected}
+use Rattle.g_typing.specs.Assigned.{unlike, gives_unlike, results_unlike}
+use Rattle.g_typing.specs.Selected.{selectors_of, is_no, is_complete, uncovered}
 use Rattle.g_rules_cases.specs.Held.{is_default, names_at, holds, Unheld}
 use Rattle.g_rules_cases.proofs.Deciding.{unheld_or_none}
-use Rattle.g_rules_lines.specs.Spots.{Spot, spot_at}
+use Rattle.g_rules_lines.specs.Spots.{spot_at}
 use Rattle.g_rules_lines.specs.InPlaceBodies.{spare_refs}
 use Rattle.g_border.specs.Readers.{sources_on, place_all}
 use Rattle.g_border.specs.Lines.{reference_in}
@@ -39,10 +38,10 @@ use Rattle.g_infer_laws.specs.OwnLines.{is_loop_line, is_case_line, is_frame_lin
 use Rattle.g_infer_laws.proofs.Rules.{Fed}
 use Rattle.g_infer_laws.proofs.Held.{OperandsHold, LineHolds, LinesHold}
 use Rattle.g_typed_states.specs.Places.{Among, first, later, HaveTypes, lines_places, IsSupplied}
-use Rattle.g_typed_states.specs.Lines.{IsAssignable, IsLoopLine, IsCaseLine, IsFrameLine, IsPlaceLine, AllLines, types_inside, types_outside, types_in_place, types_of_result, LinesInside, LinesOutside, LinesFit, ResultsOutside, GivesFit, HasOneReference}
+use Rattle.g_typed_states.specs.Lines.{IsAssignable, IsLoopLine, IsCaseLine, IsFrameLine, IsPlaceLine, AllLines, types_inside, types_in_place, types_of_result, LinesInside, LinesOutside, LinesFit, ResultsOutside, GivesFit, HasOneReference}
 use Rattle.g_typed_states.specs.Bodies.{IsWorkedOut}
-use Rattle.g_typed_states.specs.Accepted.{AcceptsLoop, AcceptsCase, AllGivesFit, AcceptsPart, AcceptsParts, AcceptsPlace}
-use Rattle.g_accepted.proofs.Facts.{IsIn, in_left, in_right, all_left, all_right, nil_left, nil_right, and_first, and_second, and_both, some_same, none_some, the_one, is_there, of_one}
+use Rattle.g_typed_states.specs.Accepted.{AcceptsLoop, AcceptsCase, AllGivesFit, AcceptsParts, AcceptsPlace}
+use Rattle.g_accepted.proofs.Facts.{IsIn, in_left, in_right, all_left, all_right, nil_left, nil_right, and_first, and_second, and_both, none_some, the_one, of_one}
 use Rattle.g_accepted.proofs.Placed.{flat, lines, line_typed, TypesOn, named, case_sources, inside_typed, is_plain_line, outside_typed}
 use Rattle.g_accepted.proofs.Nodes.{IsKnown, NodeFacts, passed, assignable, kind_is, known, lines_inside_typed, lines_outside_typed, lines_fit}
 

@@ -1,5 +1,5 @@
 -- Where the name of a diagram has its source: at a control, at a node of the diagram, or at the border of the node whose diagram it is.
-use Rattle.std.proofs.Common.{◌≡◌, ◌⊎◌, ◌<◌, inl, inr, ⊎_elim, ℕ, suc, ◌+◌, ◌==◌, Bool, true, false, cond, ◌&&◌, List, [], ◌∷◌, ◌++◌, map, filter, Option, Some, None, refl, ap, sym, ◌∙◌, subst, arith}
+use Rattle.std.proofs.Common.{◌≡◌, ◌⊎◌, ◌<◌, inl, inr, ⊎_elim, ℕ, ◌+◌, ◌==◌, Bool, true, false, cond, ◌&&◌, List, [], ◌∷◌, ◌++◌, map, Option, Some, None, refl, ap, sym, ◌∙◌, subst, arith}
 use Rattle.std.specs.List.{AllByRecursion}
 use Rattle.std.proofs.lemmas.Bool.{false≢true}
 use Rattle.g_diagram.specs.declared.node.Tunnel.{Tunnel}
@@ -8,22 +8,21 @@ use Rattle.g_diagram.specs.declared.panel.PanelItem.{PanelItem}
 use Rattle.g_diagram.specs.declared.panel.PanelItem.TheVariants.{Control, Indicator}
 use Rattle.g_diagram.specs.declared.hierarchy.Vi.{Vi}
 use Rattle.g_diagram.specs.Lines.{Wire, Arm, Part, Entry, Kind, Const, Apply, Shows, Shared, Obtain, Read, Write, Call, Loop, Case, Sequence, InPlace, entries_of, nodes_of}
-use Rattle.g_diagram.specs.Operands.{Side, Outside, Inside, Before, Operand, Line, Freedom, source, consumer, free_consumer, border, case_border, plain_line, header_line, border_lines, parts_lines, give_line, call_inputs, in_and_out, loop_header, kind_lines, entries_lines, control_line, control_lines}
-use Rattle.g_diagram.specs.Ports.{ports_in, ports_of, freedom}
+use Rattle.g_diagram.specs.Operands.{Side, Outside, Inside, Before, Operand, Line, Freedom, source, consumer, free_consumer, border, case_border, border_lines, parts_lines, give_line, call_inputs, loop_header, kind_lines, entries_lines, control_line, control_lines}
+use Rattle.g_diagram.specs.Ports.{freedom}
 use Rattle.g_typing.specs.Types.{Types}
 use Rattle.g_typing.proofs.Roles.{bodies, IsAmong}
-use Rattle.g_typing.proofs.NodeRoles.{IsAfter, Rise, FramesRise}
 use Rattle.g_typing.proofs.Nesting.{nested, line_count}
 use Rattle.g_typing.proofs.Ready.{IsNested}
 use Rattle.g_typing.proofs.Ready as ready
 use Rattle.g_border.specs.declared.place.WireSource.{WireSource}
-use Rattle.g_border.specs.Readers.{source_of, is_on, sources_on, place_all, node_lines, lines_sources}
-use Rattle.g_frames.specs.Program.{FlatVi, flat_vi}
+use Rattle.g_border.specs.Readers.{source_of, is_on, sources_on, place_all, lines_sources}
+use Rattle.g_frames.specs.Program.{FlatVi}
 use Rattle.g_frames.specs.State.{nodes_in}
-use Rattle.g_typed_states.specs.Places.{Among, node_places, line_places, lines_places, control_places, IsNodePlace, IsSupplied}
-use Rattle.g_accepted.proofs.Facts.{IsIn, in_left, in_right, in_either, in_map, all_both, of_one, some_same, same_number}
+use Rattle.g_typed_states.specs.Places.{Among, node_places, lines_places, control_places, IsNodePlace, IsSupplied}
+use Rattle.g_accepted.proofs.Facts.{IsIn, in_left, in_right, in_either, all_both, of_one, same_number}
 use Rattle.g_accepted.proofs.Placed.{flat, lines, case_sources, call_sources}
-use Rattle.g_accepted.proofs.Sources.{OperandAt, IsSide, SourceAt, SourceOn, source_at}
+use Rattle.g_accepted.proofs.Sources.{OperandAt, IsSide, SourceAt, source_at}
 use Rattle.g_accepted.proofs.Structures.{to_among}
 
 -- ---- lines of a node

@@ -1,7 +1,7 @@
 -- The types of a VI's wires are such as a listing can write: in the order of the steps in which they are decided.
-use Rattle.std.proofs.Common.{◌≡◌, ◌≤◌, ◌<◌, inl, inr, ⊎_elim, ℕ, zero, suc, ◌+◌, Bool, true, false, not, List, [], ◌∷◌, ◌++◌, map, length, Option, Some, None, refl, ap, sym, ◌∙◌, subst, arith}
-use Rattle.std.specs.Prelude.{is_some, slice_get, if◌then◌else◌}
-use Rattle.std.specs.List.{AllByRecursion, All, list_all}
+use Rattle.std.proofs.Common.{◌≡◌, ◌≤◌, inl, inr, ⊎_elim, ℕ, zero, suc, ◌+◌, Bool, true, false, not, List, [], ◌∷◌, ◌++◌, map, Option, Some, None, refl, ap, sym, ◌∙◌, subst, arith}
+use Rattle.std.specs.Prelude.{slice_get, if◌then◌else◌}
+use Rattle.std.specs.List.{AllByRecursion, list_all}
 use Rattle.std.specs.Str.{bytes_eq}
 use Rattle.std.proofs.lemmas.List.Elements.{All-from_recursion, recursion_from_All}
 use Rattle.g_types.specs.declared.rep.Rep.TheVariants.{I32}
@@ -38,7 +38,7 @@ use Rattle.g_typing.specs.Types.{Types, place, both, wire_type, wire_types, wire
 use Rattle.g_typing.specs.Rows.{unless, fits_shared, line_misses, lines_miss, stop_operand, kind_misses}
 use Rattle.g_types.specs.Ty.{is_num}
 use Rattle.g_prims_definitions.specs.Kinds.{is_bool}
-use Rattle.g_typing.specs.Typing.{Given, Callees, Objects, HasGiven, IsGivenTo, IsTyping, given, given_each, kept_if, all_kept_if, known_or_none, row_after, with_code, shared_types, shared_after, carried, line_inside, line_outside, lines_inside, lines_outside, type_or_next, result_type, result_given, next_result, item_type, panel_type, indicator_types, panel_of, called_panel, controls_given}
+use Rattle.g_typing.specs.Typing.{Given, Callees, Objects, IsGivenTo, IsTyping, given, given_each, kept_if, all_kept_if, row_after, with_code, shared_types, shared_after, carried, line_inside, line_outside, lines_inside, lines_outside, type_or_next, result_type, result_given, next_result, panel_type, indicator_types, called_panel, controls_given}
 use Rattle.g_typing.proofs.Unique.{Step, HaveGiven}
 use Rattle.g_typing.proofs.Local.{carry_reads, inside_reads, all_inside_reads, outside_reads, all_outside_reads, at_diagram, result_reads, kind_reads}
 use Rattle.g_typing.proofs.Steps.{ok_at, arms_steps, one_result_reads, results_steps, parts_steps, kind_steps}
@@ -49,11 +49,10 @@ use Rattle.g_typing.proofs.NodeRoles.{in_append}
 use Rattle.g_typing.proofs.Names.{Giver, NoGiver, find_giver, vi_named, named_in, same_given}
 use Rattle.g_typing.proofs.Ready.{Ready, ready}
 use Rattle.g_typing.proofs.Agreed.{none_given, Typed}
-use Rattle.g_typing.proofs.Agreed as agreed
-use Rattle.g_infer_laws.specs.OwnLines.{is_loop_line, is_case_line, is_frame_line, is_place_line, have_frame_lines, has_own_lines}
+use Rattle.g_infer_laws.specs.OwnLines.{is_case_line, is_frame_line, have_frame_lines, has_own_lines}
 use Rattle.std.proofs.lemmas.Bool.{false≢true}
 use Rattle.g_listing_laws.specs.Spelled.{IsItemSpelled, IsKindSpelled, IsLineSpelled}
-use Rattle.g_accepted.proofs.Facts.{IsIn, all_both, all_left, all_right, nil_left, nil_right, and_first, and_second, some_same, none_some, of_one}
+use Rattle.g_accepted.proofs.Facts.{IsIn, all_both, all_left, all_right, nil_left, nil_right, and_first, and_second, some_same, none_some}
 use Rattle.g_accepted.proofs.Nodes.{passed, kind_is, shallow_depth, array_type, reference_type}
 
 -- ---- what a reference names

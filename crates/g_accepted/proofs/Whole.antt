@@ -1,7 +1,7 @@
 -- The program of a hierarchy in which nothing is broken is accepted.
-use Rattle.std.proofs.Common.{◌≡◌, ◌⊎◌, ◌≤◌, ◌<◌, inl, inr, ⊎_elim, ℕ, ℤ, pos, negsuc, zero, suc, ◌+◌, Bool, true, false, not, ◌||◌, List, [], ◌∷◌, ◌++◌, map, length, Option, Some, None, refl, ap, sym, ◌∙◌, subst, arith}
+use Rattle.std.proofs.Common.{◌≡◌, ◌≤◌, inl, inr, ⊎_elim, ℕ, ℤ, pos, negsuc, ◌+◌, Bool, true, false, not, ◌||◌, List, [], ◌∷◌, map, length, Option, Some, None, refl, ap, sym, ◌∙◌, subst, arith}
 use Rattle.std.specs.Prelude.{is_some, slice_get, if◌then◌else◌}
-use Rattle.std.specs.List.{AllByRecursion, All}
+use Rattle.std.specs.List.{AllByRecursion}
 use Rattle.std.specs.Str.{bytes_eq}
 use Rattle.std.proofs.lemmas.Bool.{false≢true}
 use Rattle.std.proofs.lemmas.List.Elements.{recursion_from_All}
@@ -23,16 +23,13 @@ use Rattle.g_diagram.specs.declared.hierarchy.Clones.TheVariants.{NonReentrant, 
 use Rattle.g_diagram.specs.declared.hierarchy.Hierarchy.{Hierarchy}
 use Rattle.g_diagram.specs.declared.hierarchy.Vi.{Vi}
 use Rattle.g_diagram.specs.Leads.{Leads}
-use Rattle.g_diagram.specs.Lines.{Wire, Arm, Part, Entry, Kind, Const, Apply, Shows, Shared, Obtain, Read, Write, Call, Loop, Case, Sequence, InPlace, entries_of, panel_entries, nodes_entries}
-use Rattle.g_diagram.specs.Operands.{Inside, Line, Operand, source, border, border_lines, header_line, loop_header, kind_lines, entries_lines, control_line, control_lines}
-use Rattle.g_diagram.specs.Ports.{Port, ports_of, ports_in, freedom, first_vi, has_wire}
-use Rattle.g_rules_breaks.specs.Breaks.{has_break}
-use Rattle.g_rules_lines.specs.Arity.{fits_arity}
-use Rattle.g_rules_lines.specs.Callees.{arity, arities}
+use Rattle.g_diagram.specs.Lines.{Wire, Entry, Kind, Const, Apply, Shows, Shared, Obtain, Read, Write, Call, Loop, Case, Sequence, InPlace, entries_of, panel_entries, nodes_entries}
+use Rattle.g_diagram.specs.Operands.{Inside, Line, source, border, border_lines, kind_lines, entries_lines, control_line, control_lines}
+use Rattle.g_diagram.specs.Ports.{Port, ports_of, freedom, first_vi, has_wire}
+use Rattle.g_rules_lines.specs.Callees.{arity}
 use Rattle.std.specs.Option.{option_map}
 use Rattle.g_rules_lines.specs.InPlaceBodies.{insides, kind_spare_refs}
-use Rattle.g_rules_lines.specs.PanelObjects.{panel_name, names_object}
-use Rattle.g_rules_lines.specs.UnknownVis.{names_no_vi}
+use Rattle.g_rules_lines.specs.PanelObjects.{names_object}
 use Rattle.g_wires.specs.Breaks.{IsWiring}
 use Rattle.g_shared.specs.Queues.{IsSize}
 use Rattle.g_hier.specs.declared.linked.Linked.{Linked}
@@ -41,7 +38,6 @@ use Rattle.g_hier.specs.declared.linked.Space.{Space}
 use Rattle.g_hier.specs.Outlines.{number_of, outline_of, outlines_of}
 use Rattle.g_hier.specs.LinkOrder.{IsLinked}
 use Rattle.g_typing.specs.Types.{Types, place, wire_type, wire_at}
-use Rattle.g_typing.specs.Rows.{kind_misses, fits_shared}
 use Rattle.g_typing.specs.Typing.{Given, HasGiven, IsTyping, given, controls_given, entries_given, kind_given, all_given, called_panel, panel_of, panel_type, indicator_types}
 use Rattle.g_typing.specs.Literals.{is_default_of, item_mistakes, panel_mistakes}
 use Rattle.g_typing.specs.Breaks.{TypeBreak}
@@ -51,38 +47,36 @@ use Rattle.g_typing.proofs.Only.{vi_steps}
 use Rattle.g_typing.proofs.Unique.{Step}
 use Rattle.g_typing.proofs.Ready.{Ready}
 use Rattle.g_typing.proofs.Ready as ready
-use Rattle.g_typing.proofs.Names.{Giver, NoGiver, find_giver}
-use Rattle.g_typing.proofs.Agreed.{Typed, none_given, all_ready}
-use Rattle.g_border.specs.declared.place.WireSource.{WireSource}
-use Rattle.g_border.specs.Readers.{source_of, sources_on, place_all}
-use Rattle.g_border.specs.Loops.{kept_lines, kept_registers}
+use Rattle.g_typing.proofs.Names.{Giver, find_giver}
+use Rattle.g_typing.proofs.Agreed.{none_given, all_ready}
+use Rattle.g_border.specs.Readers.{source_of}
+use Rattle.g_border.specs.Loops.{kept_registers}
 use Rattle.g_frames.specs.declared.program.QueueName.{QueueName}
 use Rattle.g_frames.specs.declared.program.CellPlace.{CellPlace}
 use Rattle.g_frames.specs.declared.program.KeptPlace.{KeptPlace}
 use Rattle.g_frames.specs.Program as frames
 use Rattle.g_frames.specs.Program.{FlatVi, Program, flat_vi, flat_vis, vi_at, numbered, first_of_each, queue_on, cell_on, kept_on, program, IsProgram}
 use Rattle.g_frames.specs.State.{clone_count}
-use Rattle.g_listing_laws.specs.Spelled.{IsItemSpelled, IsPoolSize, IsQueueSize, IsLineSpelled, IsKindSpelled, IsViSpelled, AreSpelled}
+use Rattle.g_listing_laws.specs.Spelled.{IsItemSpelled, IsPoolSize, IsQueueSize, IsLineSpelled, IsKindSpelled, IsViSpelled}
 use Rattle.g_infer_laws.specs.OwnLines.{has_own_lines, HasOwnLines}
 use Rattle.g_infer_laws.specs.Wires.{HasType, IsAllTyped}
 use Rattle.g_infer_laws.proofs.EachTyped.{each_wire_typed}
-use Rattle.g_infer_laws.proofs.Held.{PortsHold, LinesHold, lines_of_one, from_ports}
+use Rattle.g_infer_laws.proofs.Held.{PortsHold, LinesHold, from_ports}
 use Rattle.g_infer_laws.proofs.Rules.{Fed, IsRight, consumers_fed, none_turns, right}
 use Rattle.g_infer_laws.proofs.Sources.{Sourced}
-use Rattle.g_rules.specs.Checked.{IsBreak, IsUnbroken, types}
-use Rattle.g_typed_states.specs.Places.{Among, HasTypeAt, HaveTypes, node_places, IsSupplied}
+use Rattle.g_rules.specs.Checked.{IsUnbroken, types}
+use Rattle.g_typed_states.specs.Places.{HaveTypes, node_places}
 use Rattle.g_typed_states.specs.Lines.{IsAssignable, ArgumentsFit, IsItemProper, ControlsTyped, cell_type}
-use Rattle.g_typed_states.specs.Accepted.{AcceptsKind, AcceptsCall, AcceptsRead, AcceptsLocal, AcceptsWrite, IsAcceptedVi, HasInSpace, HasShared, HasCell, IsAcceptedSpace, IsAccepted}
+use Rattle.g_typed_states.specs.Accepted.{AcceptsKind, IsAcceptedVi, HasInSpace, HasShared, IsAcceptedSpace, IsAccepted}
 use Rattle.g_accepted.specs.Laws.{AreAccepted}
 use Rattle.g_rules_lines.specs.Queues.{all_queues, first_queue}
-use Rattle.g_accepted.proofs.Facts.{IsIn, in_left, in_right, in_either, in_get, of_one, each_one, all_left, all_right, nil_left, nil_right, and_first, some_same, none_some, the_one, is_there}
+use Rattle.g_accepted.proofs.Facts.{IsIn, in_left, in_either, in_get, of_one, each_one, all_left, all_right, nil_left, nil_right, some_same, none_some, the_one, is_there}
 use Rattle.g_accepted.proofs.Laid.{lines_once}
 use Rattle.g_accepted.proofs.Sources.{at_own_line, some_source}
-use Rattle.g_accepted.proofs.Sources as sources
 use Rattle.g_accepted.proofs.Broken.{IsSound, sound}
 use Rattle.g_accepted.proofs.Placed.{flat, lines, named}
-use Rattle.g_accepted.proofs.Nodes.{IsKnown, NodeFacts, passed, kind_is, shallow_depth, const_accepted, apply_accepted, shared_accepted, obtain_accepted, read_places, write_fits, shown_fits, call_inputs_fit, call_places}
-use Rattle.g_accepted.proofs.Structures.{from_among, to_among, loop_accepted, case_accepted, sequence_accepted, place_accepted}
+use Rattle.g_accepted.proofs.Nodes.{IsKnown, NodeFacts, passed, shallow_depth, const_accepted, apply_accepted, shared_accepted, obtain_accepted, read_places, write_fits, shown_fits, call_inputs_fit, call_places}
+use Rattle.g_accepted.proofs.Structures.{from_among, loop_accepted, case_accepted, sequence_accepted, place_accepted}
 use Rattle.g_accepted.proofs.Linked.{InOrder, in_order}
 use Rattle.g_accepted.proofs.Objects.{get_map, get_mapped, flat_got, get_flat, flat_number, numbered_vi, of_space, InSpace, of_queues, OfQueue, first_kept, pool_there}
 use Rattle.g_accepted.proofs.Spaces.{call_space, main_space, queue_there, obtained, cell_there, kept_there, OfCell, of_cell, OfKept, of_kept}
@@ -90,8 +84,8 @@ use Rattle.g_accepted.proofs.Given.{giver_found}
 use Rattle.g_accepted.proofs.TypesSpelled.{IsOk, NodesOk, types_spelled, indicators_ok}
 use Rattle.g_accepted.proofs.Supplied.{IsLineOf, lines_of_kind, top_supplied}
 use Rattle.g_accepted.proofs.Owners.{loop_supplied, case_supplied, part_supplied}
-use Rattle.g_accepted.proofs.Panels.{cell_of_item, typed_item, type_in, shown_item}
-use Rattle.g_accepted.proofs.Inside.{NotShown, top_ranged}
+use Rattle.g_accepted.proofs.Panels.{cell_of_item, typed_item, shown_item}
+use Rattle.g_accepted.proofs.Inside.{top_ranged}
 use Rattle.g_accepted.proofs.Gathered.{spare_own}
 use Rattle.g_accepted.proofs.BodyTurns.{vi_line}
 use Rattle.g_accepted.proofs.WorkedOut.{worked_out}

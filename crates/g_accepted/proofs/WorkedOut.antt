@@ -1,33 +1,31 @@
 -- A body in place can be worked out: what its steps read is given, and each step's turn comes.
-use Rattle.std.proofs.Common.{◌≡◌, ◌⊎◌, ◌<◌, ◌≤◌, inl, inr, ⊎_elim, ℕ, zero, suc, ◌+◌, Bool, true, false, List, [], ◌∷◌, ◌++◌, map, Option, Some, None, refl, ap, sym, ◌∙◌, subst, arith}
+use Rattle.std.proofs.Common.{◌≡◌, ◌⊎◌, ◌<◌, ◌≤◌, inl, inr, ⊎_elim, ℕ, ◌+◌, Bool, true, false, List, [], ◌∷◌, ◌++◌, map, Some, refl, ap, sym, ◌∙◌, subst, arith}
 use Rattle.std.specs.Prelude.{is_some}
 use Rattle.std.specs.List.{AllByRecursion}
 use Rattle.std.proofs.lemmas.Bool.{false≢true}
 use Rattle.g_diagram.specs.declared.node.Tunnel.{Tunnel}
 use Rattle.g_diagram.specs.declared.hierarchy.Vi.{Vi}
 use Rattle.g_diagram.specs.Leads.{Leads}
-use Rattle.g_diagram.specs.Lines.{Wire, Arm, Part, Entry, Kind, Const, Apply, Shows, Shared, Obtain, Read, Write, Call, Loop, Case, Sequence, InPlace, entries_of}
-use Rattle.g_diagram.specs.Operands.{Side, Outside, Inside, Before, Operand, Line, Freedom, source, consumer, free_consumer, border, case_border, border_lines, give_line, kind_lines, entries_lines, control_lines}
+use Rattle.g_diagram.specs.Lines.{Wire, Arm, Entry, Kind, Const, Apply, Shows, Shared, Obtain, Read, Write, Call, Loop, Case, Sequence, InPlace, entries_of}
+use Rattle.g_diagram.specs.Operands.{Side, Outside, Inside, Operand, Line, Freedom, source, consumer, free_consumer, border, case_border, border_lines, give_line, kind_lines}
 use Rattle.g_diagram.specs.Ports.{ports_of, freedom, has_wire}
-use Rattle.g_rules_lines.specs.InPlaceBodies.{may_stand_in_place, kind_spare_refs, spare_refs, misplaced}
+use Rattle.g_rules_lines.specs.InPlaceBodies.{may_stand_in_place, kind_spare_refs, misplaced}
 use Rattle.g_typing.specs.Types.{Types}
 use Rattle.g_typing.proofs.Roles.{bodies}
 use Rattle.g_border.specs.declared.place.WireSource.{WireSource}
 use Rattle.g_border.specs.Readers.{source_of, lines_sources, wires_taken_on, inputs_of, node_lines}
-use Rattle.g_border.specs.Lines.{reference_in}
 use Rattle.g_border.specs.Bodies.{in_diagram, arms_read, inside_of}
 use Rattle.g_frames.specs.Program.{FlatVi}
 use Rattle.g_infer_laws.proofs.Rules.{Fed}
 use Rattle.g_infer_laws.proofs.Held.{OnSide, OperandHolds, OperandsHold, LineHolds, LinesHold}
 use Rattle.g_typed_states.specs.Places.{Among, node_places, lines_places}
-use Rattle.g_typed_states.specs.Bodies.{BodyStep, kind_body_steps, body_steps, steps_in, IsStepPlace, IsFed, IsUnreferred, IsWorkedOut}
-use Rattle.g_accepted.proofs.Facts.{IsIn, in_left, in_right, in_either, all_left, all_right, of_one, the_one}
-use Rattle.g_accepted.proofs.Placed.{flat, lines}
+use Rattle.g_typed_states.specs.Bodies.{BodyStep, kind_body_steps, steps_in, IsStepPlace, IsFed, IsUnreferred, IsWorkedOut}
+use Rattle.g_accepted.proofs.Facts.{IsIn, in_either, all_right, of_one, the_one}
+use Rattle.g_accepted.proofs.Placed.{flat}
 use Rattle.g_accepted.proofs.Nodes.{IsKnown}
 use Rattle.g_accepted.proofs.Structures.{from_among, to_among, no_refs}
 use Rattle.g_accepted.proofs.Supplied.{Located, control, outer, inner, located, in_lines_sources, border_sources, one_owner}
 use Rattle.g_accepted.proofs.Owners.{case_inside_sources, border_inside}
-use Rattle.g_accepted.proofs.Ranged.{IsApart}
 use Rattle.g_accepted.proofs.Inside.{IsPlaced, placed}
 use Rattle.g_accepted.proofs.Gathered.{stands_in_place, spare_inside}
 use Rattle.g_accepted.proofs.BodyReady.{in_range, of_range, step_origin, step_of, Takes, taken_on, in_one, ReadsOut, StepRole, opens, closes, step_role, case_outside_sources}

@@ -1,11 +1,11 @@
-mod Facts
-mod Held
-mod Fine
-mod Sources
-mod Rules
-mod Gives
-mod EachTyped
-mod OwnNodes
-mod OwnGiven
-mod Laws
-mod Examples
+pub mod Facts
+pub mod Held
+pub mod Fine
+pub mod Sources
+pub mod Rules
+pub mod Gives
+pub mod EachTyped
+pub mod OwnNodes
+pub mod OwnGiven
+pub mod Laws
+pub mod Examples

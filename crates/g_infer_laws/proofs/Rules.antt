@@ -50,13 +50,13 @@ use Rattle.g_infer_laws.proofs.Sources.{Sourced}
 
 -- ---- breaks among some
 
-abbrev NoBreak : List Break → Type 0
+abbrev pub NoBreak : List Break → Type 0
 NoBreak bs = (b : Break) → has_break bs b ≡ true → ⊥
 
-no_front : (xs ys : List Break) → NoBreak (xs ++ ys) → NoBreak xs
+pub no_front : (xs ys : List Break) → NoBreak (xs ++ ys) → NoBreak xs
 no_front xs ys none b has = none b (list_any-append (λ c. is_eq (break_cmp b c)) xs ys ∙ ap (λ v. v || has_break ys b) has)
 
-no_back : (xs ys : List Break) → NoBreak (xs ++ ys) → NoBreak ys
+pub no_back : (xs ys : List Break) → NoBreak (xs ++ ys) → NoBreak ys
 no_back xs ys none b has = none b (list_any-append (λ c. is_eq (break_cmp b c)) xs ys ∙ or_right (has_break xs b) (has_break ys b) has)
 
 -- where there are none of all VIs, there are none of the VI at number k, if they count from n
@@ -67,12 +67,12 @@ none_of_vi f n m (v ∷ vis) zero vi at same none =
     subst (λ (x : ℕ). NoBreak (f x vi)) first (subst (λ (y : Vi). NoBreak (f n y)) (same_Some v vi at) (no_front (f n v) (each_from f (n + 1) vis) none))
 none_of_vi f n m (v ∷ vis) (suc k) vi at same none = none_of_vi f (n + 1) m vis k vi at (omega (arith, same)) (no_back (f n v) (each_from f (n + 1) vis) none)
 
-none_told : (g : Spot → Break) (ss : List Spot) → NoBreak (map g ss) → ss ≡ []
+pub none_told : (g : Spot → Break) (ss : List Spot) → NoBreak (map g ss) → ss ≡ []
 none_told g [] none = refl
 none_told g (s ∷ ss) none = absurd (none (g s) (ap (λ v. v || has_break (map g ss) (g s)) (same_itself (g s))))
 
 -- where a rule tells of none of some items, each passes
-none_kept : {A : Type 0} (at : A → Spot) (test : A → Bool) (xs : List A) → map at (filter test xs) ≡ [] → AllByRecursion (λ x. test x ≡ false) xs
+pub none_kept : {A : Type 0} (at : A → Spot) (test : A → Bool) (xs : List A) → map at (filter test xs) ≡ [] → AllByRecursion (λ x. test x ≡ false) xs
 none_kept at test [] e = tt
 none_kept {A} at test (x ∷ xs) e = by (test x) refl e (none_kept at test xs)
   where
@@ -81,7 +81,7 @@ none_kept {A} at test (x ∷ xs) e = by (test x) refl e (none_kept at test xs)
     by true q e more = absurd (cc e)
     by false q e more = (q, more e)
 
-none_flat : (f : Entry → List Spot) (es : List Entry) → flat_map f es ≡ [] → AllByRecursion (λ e. f e ≡ []) es
+pub none_flat : (f : Entry → List Spot) (es : List Entry) → flat_map f es ≡ [] → AllByRecursion (λ e. f e ≡ []) es
 none_flat f [] h = tt
 none_flat f (e ∷ es) h = (nil_left (f e) (flat_map f es) h, none_flat f es (nil_right (f e) (flat_map f es) h))
 
@@ -151,19 +151,19 @@ module _ (h : Hierarchy) (main : List ℕ) (wiring : IsWiring h main []) (k : �
   abbrev known : Known
   known = known_of h.vis
 
-  none_plain : NoBreak (plain_in (ports_of h.vis) known k vi)
+  pub none_plain : NoBreak (plain_in (ports_of h.vis) known k vi)
   none_plain =
       none_of_vi (plain_in (ports_of h.vis) known) 0 k h.vis k vi stands (omega arith)
       (no_front (each_from (plain_in (ports_of h.vis) known) 0 h.vis) (renamed_vis h.vis)
       (no_front (plain_breaks (ports_of h.vis) known h.vis) (absent_main known.arities (length h.vis) main) (λ b has. false≢true (wiring.each b (inl has)))))
 
-  none_named : NoBreak (named_in ps k)
+  pub none_named : NoBreak (named_in ps k)
   none_named = no_front (named_in ps k) (lined_by known k vi.panel es) none_plain
 
-  none_lined : NoBreak (lined_by known k vi.panel es)
+  pub none_lined : NoBreak (lined_by known k vi.panel es)
   none_lined = no_back (named_in ps k) (lined_by known k vi.panel es) none_plain
 
-  none_called : NoBreak (called_by known.arities k vi.panel es)
+  pub none_called : NoBreak (called_by known.arities k vi.panel es)
   none_called = no_front (called_by known.arities k vi.panel es) (structured_by known.queues k es) none_lined
 
   -- each consumer is fed where each source is given
@@ -183,7 +183,7 @@ module _ (h : Hierarchy) (main : List ℕ) (wiring : IsWiring h main []) (k : �
   counted : AllByRecursion (λ e. not (fits_arity known.arities e.kind) ≡ false) es
   counted = none_kept whole (λ e. not (fits_arity known.arities e.kind)) es (none_told (break k 5) (miscounted known.arities es) (no_front (map (break k 5) (miscounted known.arities es)) _ none_called))
 
-  none_named_so : NoBreak (map (break k 8) (unlocated (names_object vi.panel) es) ++ map (break k 9) (uncalled known.arities es))
+  pub none_named_so : NoBreak (map (break k 8) (unlocated (names_object vi.panel) es) ++ map (break k 9) (uncalled known.arities es))
   none_named_so = no_back (renamed_items k vi.panel) _ (no_back (map (break k 5) (miscounted known.arities es)) _ none_called)
 
   located : AllByRecursion (λ e. names_no_object (names_object vi.panel) e.kind ≡ false) es
@@ -204,7 +204,7 @@ module _ (h : Hierarchy) (main : List ℕ) (wiring : IsWiring h main []) (k : �
       (no_back (map (break k 10) (reselected es)) _ (no_back (called_by known.arities k vi.panel es) (structured_by known.queues k es) none_lined))))
 
   module _ (unbroken : (b : Break) → TypeBreak h b → ⊥) (types : Types) (typing : IsTyping h.vis vi types) (own : HasOwnLines vi) where
-    none_rowless : NoneOf k (rowless types k es)
+    pub none_rowless : NoneOf k (rowless types k es)
     none_rowless l o is =
         unbroken (broken 16 (place k l o)) (record {
           vi = vi;

@@ -1,8 +1,8 @@
 -- The steps of bodies in place give typed values where what they read is typed.
-use Rattle.std.proofs.Common.{◌≡◌, ◌⊎◌, inl, inr, ⊎_elim, Bool, true, false, ◌&&◌, ℕ, zero, suc, ◌+◌, List, [], ◌∷◌, ◌++◌, map, length, Option, Some, None, refl, ap, sym, ◌∙◌, subst}
-use Rattle.std.specs.Prelude.{slice_get, is_some}
+use Rattle.std.proofs.Common.{◌≡◌, ⊎_elim, true, false, ◌&&◌, ℕ, zero, suc, ◌+◌, List, [], ◌∷◌, ◌++◌, map, Option, Some, None, refl, ap, sym, ◌∙◌, subst}
+use Rattle.std.specs.Prelude.{is_some}
 use Rattle.std.specs.List.{list_all}
-use Rattle.std.specs.Option.{option_and_then, option_or, option_map_or}
+use Rattle.std.specs.Option.{option_or}
 use Rattle.g_types.specs.declared.ty.Ty.{Ty}
 use Rattle.g_values.specs.declared.value.Value.{Value}
 use Rattle.g_values.specs.Spelled.{IsSpelled}
@@ -12,22 +12,20 @@ use Rattle.g_diagram.specs.declared.node.Tunnel.{Tunnel}
 use Rattle.g_diagram.specs.declared.node.Tunnel.TheVariants as line
 use Rattle.g_diagram.specs.Lines.{Wire, Arm, Entry, Kind, Const, Apply, Shows, Shared, Obtain, Read, Write, Call, Loop, Case, Sequence, InPlace}
 use Rattle.g_diagram.specs.Operands.{Inside, Outside, border, border_lines, kind_lines}
-use Rattle.g_typing.specs.Types.{Types, wire_type, wire_at}
-use Rattle.g_border.specs.declared.place.WireSource.{WireSource}
-use Rattle.g_border.specs.Readers.{Reader, Given, has_value, value_on, value_given, source_of, inputs_of, wires_taken, wires_taken_on, node_lines, outputs_given}
-use Rattle.g_border.specs.Lines.{entering, lines_inside, leaving, lines_outside, reference_on, reference_in}
-use Rattle.g_border.specs.Cases.{chosen, results_outside}
-use Rattle.g_border.specs.Bodies.{Readers, Step, in_diagram, arms_read, results_of, kind_steps, steps_of, readers, is_known}
+use Rattle.g_typing.specs.Types.{Types, wire_at}
+use Rattle.g_border.specs.Readers.{Reader, has_value, value_on, inputs_of, wires_taken, wires_taken_on, node_lines, outputs_given}
+use Rattle.g_border.specs.Lines.{entering, reference_in}
+use Rattle.g_border.specs.Cases.{chosen}
+use Rattle.g_border.specs.Bodies.{Readers, Step, in_diagram, arms_read, results_of, kind_steps, steps_of}
 use Rattle.g_frames.specs.Program.{FlatVi, Program}
-use Rattle.g_frames.proofs.RunLemmas.{refute, some_is}
 use Rattle.g_typed_states.specs.Places.{Among, first, later, HaveTypes, node_places, line_places, lines_places}
 use Rattle.g_typed_states.specs.Bodies.{BodyStep, kind_body_steps, body_steps, IsUnreferred}
-use Rattle.g_typed_states.specs.Lines.{IsPlaceLine, AllLines, types_outside, types_in_place, LineFits, LinesFit, LinesOutside}
-use Rattle.g_typed_states.specs.Accepted.{AcceptsConst, AcceptsApply, AcceptsCase, AcceptsPlace, AcceptsKind}
-use Rattle.g_typed_states.specs.Typed.{IsTypedValue, AreTyped, IsTypedReader}
-use Rattle.g_typed_states.proofs.Lists.{and_left, and_right, none_is, is_there, among_cases, among_head}
+use Rattle.g_typed_states.specs.Lines.{AllLines, types_outside, types_in_place, LinesOutside}
+use Rattle.g_typed_states.specs.Accepted.{AcceptsCase, AcceptsPlace, AcceptsKind}
+use Rattle.g_typed_states.specs.Typed.{AreTyped, IsTypedReader}
+use Rattle.g_typed_states.proofs.Lists.{and_left, and_right, none_is, is_there, among_cases}
 use Rattle.g_typed_states.proofs.Values.{literal_typed, outputs_typed}
-use Rattle.g_typed_states.proofs.Wires.{IsTypedGiven, GivesAt, are_fine, gives_paired, value_typed, values_typed}
+use Rattle.g_typed_states.proofs.Wires.{GivesAt, are_fine, gives_paired, value_typed, values_typed}
 use Rattle.g_typed_states.proofs.Inputs.{HaveValues, TakesOf, all_front, all_back, takes-Case, takes-InPlace}
 use Rattle.g_typed_states.proofs.LineValues.{HasTaken, ReferredTyped, InnerHas}
 use Rattle.g_typed_states.proofs.LineGives.{case_inside_gives, results_give, place_inside_gives, place_outside_gives}

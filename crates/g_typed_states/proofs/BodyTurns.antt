@@ -1,25 +1,24 @@
 -- A body in place is worked out: after as many turns as it has steps each of its names has a value, and all values are typed.
-use Rattle.std.proofs.Common.{◌≡◌, ◌⊎◌, inl, inr, ⊎_elim, Bool, true, false, ◌&&◌, ℕ, zero, suc, ◌+◌, List, [], ◌∷◌, ◌++◌, map, length, Option, Some, None, refl, ap, sym, ◌∙◌, subst}
-use Rattle.std.specs.Prelude.{slice_get, nat_lt, is_some, if◌then◌else◌}
+use Rattle.std.proofs.Common.{◌≡◌, ◌⊎◌, inl, inr, ⊎_elim, Bool, true, false, ◌&&◌, ℕ, zero, suc, ◌+◌, List, [], ◌∷◌, ◌++◌, length, Option, Some, None, refl, ap, sym, ◌∙◌, subst}
+use Rattle.std.specs.Prelude.{nat_lt, is_some, if◌then◌else◌}
 use Rattle.std.specs.List.{list_all}
 use Rattle.std.specs.Option.{option_map, option_and_then, option_map_or}
 use Rattle.g_types.specs.declared.ty.Ty.{Ty}
 use Rattle.g_values.specs.declared.value.Value.{Value}
 use Rattle.g_values.specs.Spelled.{IsSpelled}
 use Rattle.g_diagram.specs.declared.node.Tunnel.{Tunnel}
-use Rattle.g_diagram.specs.Lines.{Wire, Entry, Kind}
+use Rattle.g_diagram.specs.Lines.{Wire, Entry}
 use Rattle.g_diagram.specs.Operands.{Inside}
-use Rattle.g_diagram.specs.Ports.{Port}
 use Rattle.g_border.specs.declared.place.WireSource.{WireSource}
-use Rattle.g_border.specs.Readers.{Reader, Given, has_value, value_given, same_source, source_of}
-use Rattle.g_border.specs.Bodies.{Readers, Step, steps_of, inside_of, readers, is_known, next_step, turns, body_given, body_reader}
+use Rattle.g_border.specs.Readers.{Given, has_value, value_given, same_source, source_of}
+use Rattle.g_border.specs.Bodies.{Readers, Step, steps_of, inside_of, readers, is_known, next_step, turns, body_reader}
 use Rattle.g_frames.specs.Program.{FlatVi, Program}
 use Rattle.g_frames.proofs.RunLemmas.{refute, some_is}
 use Rattle.g_typed_states.specs.Places.{Among, first, later, lines_places}
-use Rattle.g_typed_states.specs.Bodies.{BodyStep, body_steps, steps_in, Feeds, Comes, comes, IsStepPlace, IsFed, IsWorkedOut}
-use Rattle.g_typed_states.specs.Accepted.{AcceptsKind, AcceptsPlace, IsAcceptedVi}
-use Rattle.g_typed_states.specs.Typed.{IsTypedValue, IsTypedReader, IsFilled}
-use Rattle.g_typed_states.proofs.Lists.{and_left, and_right, none_is, is_there, no_place, no_suc, one_less, among_cases, among_head, among_append, among_filter}
+use Rattle.g_typed_states.specs.Bodies.{BodyStep, steps_in, Feeds, Comes, comes, IsFed, IsWorkedOut}
+use Rattle.g_typed_states.specs.Accepted.{AcceptsKind, IsAcceptedVi}
+use Rattle.g_typed_states.specs.Typed.{IsTypedValue, IsFilled}
+use Rattle.g_typed_states.proofs.Lists.{none_is, is_there, no_place, no_suc, one_less, among_cases, among_head, among_append, among_filter}
 use Rattle.g_typed_states.proofs.Wires.{same_source_is, IsTypedGiven, CoversPlaces, GivesAt}
 use Rattle.g_typed_states.proofs.LineValues.{IsWhole}
 use Rattle.g_typed_states.proofs.BodySteps.{Known, ReadersTyped, IsStep, AreSteps, steps_are}

@@ -1,27 +1,25 @@
 -- The firings of calls.
-use Rattle.std.proofs.Common.{◌≡◌, ◌⊎◌, inl, inr, ⊎_elim, Bool, true, false, ℕ, zero, suc, ◌+◌, List, [], ◌∷◌, ◌++◌, map, length, Option, Some, None, refl, ap, sym, ◌∙◌, subst}
-use Rattle.std.specs.Prelude.{slice_get, is_some, is_none}
+use Rattle.std.proofs.Common.{◌≡◌, inl, inr, ⊎_elim, Bool, true, ℕ, ◌+◌, List, [], ◌∷◌, map, length, Option, Some, None, refl, ap, sym, ◌∙◌, subst}
+use Rattle.std.specs.Prelude.{slice_get, is_none}
 use Rattle.std.specs.List.{list_all}
-use Rattle.std.specs.Option.{option_map, option_and_then}
+use Rattle.std.specs.Option.{option_and_then}
 use Rattle.g_types.specs.declared.ty.Ty.{Ty}
 use Rattle.g_values.specs.declared.value.Value.{Value}
-use Rattle.g_values.specs.Spelled.{IsSpelled}
 use Rattle.g_diagram.specs.declared.hierarchy.Clones.{Clones}
 use Rattle.g_diagram.specs.declared.hierarchy.Clones.TheVariants.{NonReentrant, Preallocated, Pool}
 use Rattle.g_diagram.specs.declared.panel.PanelItem.{PanelItem}
 use Rattle.g_diagram.specs.declared.panel.PanelItem.TheVariants.{Control, Indicator}
-use Rattle.g_diagram.specs.Lines.{Wire, Entry, Kind, Call}
+use Rattle.g_diagram.specs.Lines.{Wire, Entry, Call}
 use Rattle.g_typing.specs.Types.{Types}
 use Rattle.g_typing.specs.Typing.{control_types, indicator_types}
 use Rattle.g_shared.specs.declared.operations.PanelOp.TheVariants as panel
 use Rattle.g_shared.specs.declared.operations.PoolOp.{PoolOp}
 use Rattle.g_shared.specs.declared.operations.PoolOp.TheVariants as pool
 use Rattle.g_shared.specs.declared.reply.Reply.{Reply}
-use Rattle.g_shared.specs.Outcome.{Outcome, reply_of}
-use Rattle.g_shared.specs.Panels.{PanelState, panel_step}
+use Rattle.g_shared.specs.Outcome.{reply_of}
+use Rattle.g_shared.specs.Panels.{PanelState}
 use Rattle.g_shared.specs.Pools.{PoolState, pool_step}
-use Rattle.g_border.specs.declared.place.WireSource.{WireSource}
-use Rattle.g_border.specs.Readers.{Reader, Given, has_value, value_on, paired, outputs_given}
+use Rattle.g_border.specs.Readers.{Reader, has_value, value_on, paired, outputs_given}
 use Rattle.g_frames.specs.declared.state.Progress.{Progress}
 use Rattle.g_frames.specs.declared.state.Progress.TheVariants as progress
 use Rattle.g_frames.specs.declared.state.Stage.{Stage}
@@ -30,9 +28,9 @@ use Rattle.g_frames.specs.declared.state.Frame.{Frame}
 use Rattle.g_frames.specs.Contents as content
 use Rattle.g_frames.specs.Contents.{Content, OnPanel, OnPool, object_step}
 use Rattle.g_frames.specs.Program.{FlatVi, Program, vi_at, numbered, called_space, panel_object, pool_object}
-use Rattle.g_frames.specs.Panels.{argument, arguments, default_of, controls_given}
+use Rattle.g_frames.specs.Panels.{argument, arguments, controls_given}
 use Rattle.g_frames.specs.State.{FireState, Opening, reader_in}
-use Rattle.g_frames.specs.Effects.{Effect, gives, opens, guard, Here, next_frame, no_body, on_object}
+use Rattle.g_frames.specs.Effects.{Effect, gives, opens, Here, no_body, on_object}
 use Rattle.g_frames.specs.Structures.{is_complete_at}
 use Rattle.g_frames.specs.Calls.{enters, panel_opens, stage_after, panel_returns, leaves, space_of_call, call_begins, call_goes_on, call_effect}
 use Rattle.g_frames.specs.Fire.{here}
@@ -46,8 +44,8 @@ use Rattle.g_typed_states.proofs.Values.{coerced_value, default_of_typed}
 use Rattle.g_typed_states.proofs.Wires.{GivesAt, are_fine, gives_paired, value_typed}
 use Rattle.g_typed_states.proofs.Inputs.{HaveValues, TakesOf, takes-Call}
 use Rattle.g_typed_states.proofs.Objects.{IsObject, object_at}
-use Rattle.g_typed_states.proofs.Frames.{Extends, IsFitOpening}
-use Rattle.g_typed_states.proofs.Fits.{Fits, waits, fires, IsFit, Fires, OpenedIn, StepFits, accepted_vi, outer_typed, guarded, then_fit, gives_fit, moves_fit, opens_fit, on_object_fit, panel_typed, panel_after}
+use Rattle.g_typed_states.proofs.Frames.{IsFitOpening}
+use Rattle.g_typed_states.proofs.Fits.{Fits, waits, IsFit, Fires, StepFits, accepted_vi, outer_typed, guarded, then_fit, gives_fit, moves_fit, opens_fit, on_object_fit, panel_typed, panel_after}
 use Rattle.g_typed_states.proofs.Simple.{panel_of, content_step}
 
 -- ---- panels of VIs

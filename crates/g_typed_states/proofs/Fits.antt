@@ -1,20 +1,18 @@
 -- Effects that fit: what a firing has to give so that a typed state stays typed, and how a node stands in a typed state.
-use Rattle.std.proofs.Common.{◌≡◌, ◌⊎◌, inl, inr, ⊎_elim, Bool, true, false, ◌&&◌, ℕ, zero, suc, ◌+◌, List, [], ◌∷◌, ◌++◌, map, length, cond, Option, Some, None, refl, ap, sym, ◌∙◌, subst}
-use Rattle.std.specs.Prelude.{slice_get, is_some, is_none, not, ◌==◌}
+use Rattle.std.proofs.Common.{◌≡◌, ◌⊎◌, inl, inr, ⊎_elim, Bool, true, false, ℕ, zero, suc, List, [], ◌∷◌, map, length, Option, Some, None, refl, ap, sym, ◌∙◌, subst}
+use Rattle.std.specs.Prelude.{slice_get, is_some, not, ◌==◌}
 use Rattle.std.specs.List.{list_all}
 use Rattle.std.specs.Option.{option_map, option_and_then, option_map_or}
 use Rattle.std.proofs.lemmas.Bool.{eqb-true}
 use Rattle.g_types.specs.declared.ty.Ty.{Ty}
 use Rattle.g_values.specs.declared.value.Value.{Value}
-use Rattle.g_values.specs.Spelled.{IsSpelled}
-use Rattle.g_diagram.specs.declared.node.Tunnel.{Tunnel}
-use Rattle.g_diagram.specs.Lines.{Wire, Arm, Part, Entry, Kind, Const, Apply, Shows, Shared, Obtain, Read, Write, Call, Loop, Case, Sequence, InPlace}
-use Rattle.g_typing.specs.Types.{Types, wire_type, wire_at, or_unwired}
+use Rattle.g_diagram.specs.Lines.{Wire, Entry, Kind, Const, Apply, Shows, Shared, Obtain, Read, Write, Call, Loop, Case, Sequence, InPlace}
+use Rattle.g_typing.specs.Types.{wire_type, wire_at}
 use Rattle.g_typing.specs.Typing.{control_types, indicator_types}
 use Rattle.g_shared.specs.declared.reply.Reply.{Reply}
 use Rattle.g_shared.specs.Outcome.{Outcome}
 use Rattle.g_border.specs.declared.place.WireSource.{WireSource}
-use Rattle.g_border.specs.Readers.{Reader, Given, has_value, value_on, source_of}
+use Rattle.g_border.specs.Readers.{Given, has_value, value_on, source_of}
 use Rattle.g_frames.specs.declared.program.KeptPlace.{KeptPlace}
 use Rattle.g_frames.specs.declared.state.Progress.{Progress}
 use Rattle.g_frames.specs.declared.state.Progress.TheVariants as progress
@@ -24,18 +22,18 @@ use Rattle.g_frames.specs.declared.state.Frame.{Frame}
 use Rattle.g_frames.specs.Contents.{Content, Operation, object_step}
 use Rattle.g_frames.specs.Program.{FlatVi, Program, vi_at, panel_object}
 use Rattle.g_frames.specs.State.{FireState, Opening, has_left, is_done, is_complete, nodes_in, reader_in, panel_items}
-use Rattle.g_frames.specs.Effects.{Effect, gives, opens, guard, Here, after_step, no_body, on_object}
+use Rattle.g_frames.specs.Effects.{Effect, gives, opens, guard, after_step, no_body, on_object}
 use Rattle.g_frames.specs.Fire.{has_inputs, here}
 use Rattle.g_frames.specs.Operations.{input_at}
 use Rattle.g_frames.proofs.RunLemmas.{refute, some_is}
 use Rattle.g_typed_states.specs.Places.{Among, node_places, IsNodePlace}
 use Rattle.g_typed_states.specs.Accepted.{AcceptsKind, HasInSpace, IsAcceptedVi, IsAcceptedSpace, HasSpace, IsAccepted}
-use Rattle.g_typed_states.specs.Typed.{Shape, PanelOf, shapes, panel_shape, IsTypedValue, AreTyped, IsTypedReader, IsFilled, IsTypedContent, IsTypedPanel, has_given, IsTypedProgress, IsTypedNode, AreTypedNodes, IsTypedFrame, IsTypedState}
+use Rattle.g_typed_states.specs.Typed.{Shape, PanelOf, shapes, IsTypedValue, IsTypedReader, IsFilled, IsTypedContent, has_given, IsTypedProgress, IsTypedNode, AreTypedNodes, IsTypedFrame, IsTypedState}
 use Rattle.g_typed_states.proofs.Lists.{and_left, and_right, none_is, is_there, no_place, among_cases, among_filter, filter_passes}
 use Rattle.g_typed_states.proofs.Wires.{GivesAt, IsTypedGiven, CoversPlaces, gives_none, value_typed}
 use Rattle.g_typed_states.proofs.Inputs.{HaveValues}
-use Rattle.g_typed_states.proofs.Objects.{IsObject, object_at, shaped_at, panel_at}
-use Rattle.g_typed_states.proofs.Frames.{Extends, IsFitOpening, fired_frame_typed}
+use Rattle.g_typed_states.proofs.Objects.{shaped_at, panel_at}
+use Rattle.g_typed_states.proofs.Frames.{Extends, IsFitOpening}
 
 -- ---- nodes that are done
 

@@ -1,28 +1,25 @@
 -- Typed frames stay typed where other frames go on, and become others where a node fires in them or they open.
-use Rattle.std.proofs.Common.{◌≡◌, ◌⊎◌, inl, inr, ⊎_elim, Bool, true, false, ℕ, zero, suc, ◌+◌, List, [], ◌∷◌, ◌++◌, map, length, cond, Option, Some, None, refl, ap, sym, ◌∙◌, subst}
+use Rattle.std.proofs.Common.{◌≡◌, ◌⊎◌, inl, inr, ⊎_elim, Bool, true, false, ℕ, suc, List, [], ◌∷◌, map, length, Option, Some, None, refl, ap, sym, ◌∙◌, subst}
 use Rattle.std.specs.Prelude.{slice_get, is_some, ◌==◌, if◌then◌else◌}
-use Rattle.std.specs.Option.{option_map, option_and_then}
-use Rattle.g_types.specs.declared.ty.Ty.{Ty}
 use Rattle.g_values.specs.declared.value.Value.{Value}
-use Rattle.g_diagram.specs.declared.node.Tunnel.{Tunnel}
-use Rattle.g_diagram.specs.Lines.{Wire, Arm, Part, Entry, Kind, Const, Apply, Shows, Shared, Obtain, Read, Write, Call, Loop, Case, Sequence, InPlace}
+use Rattle.g_diagram.specs.Lines.{Entry, Kind, Const, Apply, Shows, Shared, Obtain, Read, Write, Call, Loop, Case, Sequence, InPlace}
 use Rattle.g_border.specs.declared.place.WireSource.{WireSource}
-use Rattle.g_border.specs.Readers.{Reader, Given, source_of, value_given}
+use Rattle.g_border.specs.Readers.{source_of, value_given}
 use Rattle.g_frames.specs.declared.firing.FrameNode.{FrameNode}
 use Rattle.g_frames.specs.declared.state.Progress.{Progress}
 use Rattle.g_frames.specs.declared.state.Progress.TheVariants as progress
 use Rattle.g_frames.specs.declared.state.Frame.{Frame}
 use Rattle.g_frames.specs.Program.{FlatVi, Program, vi_at}
-use Rattle.g_frames.specs.State.{Opening, sources_in, nodes_in, reader_in, value_at, with_given, no_values, opened}
+use Rattle.g_frames.specs.State.{Opening, sources_in, nodes_in, reader_in, value_at, no_values, opened}
 use Rattle.g_frames.specs.Effects.{Effect}
 use Rattle.g_frames.specs.Fire.{node_on, with_progress, fired_in}
 use Rattle.g_frames.specs.Laws.{Continues}
 use Rattle.g_frames.proofs.RunLemmas.{refute, some_is}
-use Rattle.g_typed_states.specs.Places.{Among, first, later, node_places, IsNodePlace}
+use Rattle.g_typed_states.specs.Places.{Among, later, node_places, IsNodePlace}
 use Rattle.g_typed_states.specs.Accepted.{HasSpace}
-use Rattle.g_typed_states.specs.Typed.{IsTypedValue, IsTypedReader, IsFilled, has_given, IsInner, IsEnded, AreInner, IsTypedLoop, IsTypedBranch, IsTypedProgress, IsTypedNode, AreTypedNodes, IsTypedFrame}
-use Rattle.g_typed_states.proofs.Lists.{none_is, is_there, among_cases, among_head}
-use Rattle.g_typed_states.proofs.Wires.{read_in, read_at, read_from, reads_on, stays_all, comes_all, given_long, has_all, source_among, IsTypedGiven, CoversPlaces}
+use Rattle.g_typed_states.specs.Typed.{IsTypedReader, has_given, IsInner, IsEnded, AreInner, IsTypedProgress, IsTypedNode, AreTypedNodes, IsTypedFrame}
+use Rattle.g_typed_states.proofs.Lists.{none_is, is_there, among_head}
+use Rattle.g_typed_states.proofs.Wires.{read_in, read_at, read_from, reads_on, comes_all, given_long, has_all, source_among, IsTypedGiven, CoversPlaces}
 
 -- frames of which each goes on among others
 abbrev pub Extends : List Frame → List Frame → Type 0

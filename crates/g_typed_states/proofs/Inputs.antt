@@ -3,9 +3,8 @@ use Rattle.std.proofs.Common.{◌≡◌, Bool, true, false, ◌&&◌, ℕ, ◌+�
 use Rattle.std.specs.List.{list_all}
 use Rattle.g_diagram.specs.declared.node.Tunnel.{Tunnel}
 use Rattle.g_diagram.specs.declared.node.Tunnel.TheVariants as line
-use Rattle.g_operations.specs.declared.shared.SharedOp.{SharedOp}
-use Rattle.g_diagram.specs.Lines.{Wire, Arm, Part, Entry, Kind, Const, Apply, Shows, Shared, Obtain, Read, Write, Call, Loop, Case, Sequence, InPlace}
-use Rattle.g_diagram.specs.Operands.{Side, Inside, Outside, Before, Operand, Line, source, consumer, free_consumer, border, case_border, border_lines, parts_lines, give_line, call_inputs, in_and_out, loop_header, kind_lines}
+use Rattle.g_diagram.specs.Lines.{Wire, Arm, Part, Entry, Kind, Call, Loop, Case, Sequence, InPlace}
+use Rattle.g_diagram.specs.Operands.{Inside, Outside, Line, source, consumer, free_consumer, border, case_border, border_lines, parts_lines, give_line, call_inputs, in_and_out, loop_header, kind_lines}
 use Rattle.g_border.specs.declared.place.WireSource.{WireSource}
 use Rattle.g_border.specs.Readers.{Reader, has_value, sources_on, place_all, wires_taken, wires_taken_on, lines_sources}
 use Rattle.g_typed_states.specs.Places.{line_places, lines_places}

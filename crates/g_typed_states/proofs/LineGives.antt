@@ -1,35 +1,31 @@
 -- What all lines of a structure give, inside and outside.
-use Rattle.std.proofs.Common.{◌≡◌, Bool, true, false, ℕ, zero, suc, ◌+◌, List, [], ◌∷◌, ◌++◌, map, Option, Some, None, refl, ap, sym, ◌∙◌, subst}
+use Rattle.std.proofs.Common.{◌≡◌, true, ℕ, ◌+◌, List, [], ◌∷◌, Option, Some, None, refl, ap, sym, ◌∙◌, subst}
 use Rattle.std.specs.Prelude.{pos, is_some}
-use Rattle.std.specs.Option.{option_map_or}
 use Rattle.g_types.specs.declared.rep.Rep.TheVariants.{I32}
 use Rattle.g_types.specs.declared.ty.Ty.{Ty}
 use Rattle.g_values.specs.declared.value.Value.{Value}
-use Rattle.g_values.specs.Coerce.{coerced}
 use Rattle.g_values.specs.Spelled.{IsSpelled}
 use Rattle.g_prims_definitions.specs.Arithmetic.{number}
 use Rattle.g_diagram.specs.declared.node.Tunnel.{Tunnel}
 use Rattle.g_diagram.specs.declared.node.Tunnel.TheVariants as line
 use Rattle.g_diagram.specs.Lines.{Wire, Arm, Part}
 use Rattle.g_diagram.specs.Operands.{Inside, Outside, border, loop_header}
-use Rattle.g_typing.specs.Types.{Types, wire_type, wire_at, whole as code_type}
+use Rattle.g_typing.specs.Types.{wire_at, whole as code_type}
 use Rattle.g_typing.specs.Typing.{result_type, next_result}
 use Rattle.g_border.specs.declared.place.WireSource.{WireSource}
-use Rattle.g_border.specs.Readers.{Reader, Given, value_on, given_on, given_at, sources_on, place_all, paired}
+use Rattle.g_border.specs.Readers.{Reader, value_on, given_on, given_at, sources_on, place_all, paired}
 use Rattle.g_border.specs.Lines.{Entering, Leaving, leaving, values_inside, line_inside, lines_inside, values_outside, line_outside, lines_outside, parts_outside, default_at}
-use Rattle.g_border.specs.Loops.{iteration_inside}
 use Rattle.g_border.specs.Cases.{coerced_to, result_value, result_outside, results_outside}
 use Rattle.g_frames.specs.Program.{FlatVi, Program}
 use Rattle.g_frames.proofs.RunLemmas.{some_is}
 use Rattle.g_typed_states.specs.Places.{Among, HaveTypes, line_places, lines_places}
-use Rattle.g_typed_states.specs.Lines.{IsAssignable, IsLoopLine, IsCaseLine, IsFrameLine, IsPlaceLine, AllLines, types_inside, types_outside, types_of_result, LineFits, LinesFit, LinesInside, LinesOutside, ResultsOutside, GivesFit}
-use Rattle.g_typed_states.specs.Accepted.{AllGivesFit, AcceptsPart, AcceptsParts}
-use Rattle.g_typed_states.specs.Typed.{IsTypedValue, IsTypedReader, IsFilled}
-use Rattle.g_typed_states.proofs.Lists.{none_is}
+use Rattle.g_typed_states.specs.Lines.{IsAssignable, IsLoopLine, IsCaseLine, IsFrameLine, IsPlaceLine, AllLines, types_inside, types_outside, types_of_result, LinesFit, LinesInside, LinesOutside, ResultsOutside, GivesFit}
+use Rattle.g_typed_states.specs.Accepted.{AllGivesFit, AcceptsParts}
+use Rattle.g_typed_states.specs.Typed.{IsTypedValue, IsTypedReader}
 use Rattle.g_typed_states.proofs.Values.{coerced_value, default_value, number_value}
 use Rattle.g_typed_states.proofs.Wires.{IsFine, AreFine, GivesAt, value_typed, gives_paired, gives_none, gives_both}
-use Rattle.g_typed_states.proofs.LineValues.{given_paired, HasTaken, IsWhole, AllWhole, KeptTyped, ReferredTyped, InnerHas, whole_typed, loop_inside, case_inside, part_inside, place_inside, loop_outside, part_outside, place_outside}
-use Rattle.g_typed_states.proofs.Inputs.{AllParts, parts_places}
+use Rattle.g_typed_states.proofs.LineValues.{given_paired, HasTaken, IsWhole, AllWhole, KeptTyped, ReferredTyped, InnerHas, loop_inside, case_inside, part_inside, place_inside, loop_outside, part_outside, place_outside}
+use Rattle.g_typed_states.proofs.Inputs.{parts_places}
 
 -- a fact of each line, from one on
 abbrev pub EachLine : (ℕ → Tunnel → Type 0) → (line : ℕ) → List Tunnel → Type 0

@@ -1,11 +1,10 @@
 -- What border lines give is of the types that their names have, one lemma a form of line.
-use Rattle.std.proofs.Common.{◌≡◌, ◌⊎◌, inl, inr, Bool, true, false, ◌&&◌, ℕ, zero, suc, ◌+◌, List, [], ◌∷◌, ◌++◌, map, length, Option, Some, None, refl, ap, sym, ◌∙◌, subst}
-use Rattle.std.specs.Prelude.{is_some, pos}
+use Rattle.std.proofs.Common.{◌≡◌, true, ◌&&◌, ℕ, List, [], ◌∷◌, map, Option, Some, None, refl, ap, sym, ◌∙◌, subst}
 use Rattle.std.specs.List.{list_all}
-use Rattle.std.specs.Option.{option_and_then, option_map_or}
-use Rattle.g_types.specs.declared.ty.Ty.{Ty, out-Ty}
+use Rattle.std.specs.Option.{option_and_then}
+use Rattle.g_types.specs.declared.ty.Ty.{Ty}
 use Rattle.g_types.specs.declared.ty.Ty.TheVariants as ty
-use Rattle.g_values.specs.declared.value.Value.{Value, out-Value}
+use Rattle.g_values.specs.declared.value.Value.{Value}
 use Rattle.g_values.specs.Coerce.{coerced}
 use Rattle.g_values.specs.Spelled.{IsSpelled}
 use Rattle.g_values.specs.Value.{type_of}
@@ -16,21 +15,19 @@ use Rattle.g_prims_definitions.specs.Kinds.{part, array_of}
 use Rattle.g_diagram.specs.declared.node.Tunnel.{Tunnel}
 use Rattle.g_diagram.specs.declared.node.Tunnel.TheVariants as line
 use Rattle.g_diagram.specs.Lines.{Wire}
-use Rattle.g_diagram.specs.Operands.{Inside, Outside, border}
+use Rattle.g_diagram.specs.Operands.{Outside, border}
 use Rattle.g_typing.specs.Types.{Types, wire_type, then_type, element, referred}
 use Rattle.g_typing.specs.Typing.{carried}
-use Rattle.g_border.specs.declared.place.WireSource.{WireSource}
-use Rattle.g_border.specs.Readers.{Reader, Given, has_value, value_on, given_at, given_on, sources_on, place_all, paired, wires_taken}
-use Rattle.g_border.specs.Lines.{Entering, Leaving, register_value, value_in, latest, default_at, gathered, values_inside, line_inside, lines_inside, values_outside, line_outside, lines_outside}
-use Rattle.g_frames.specs.Program.{FlatVi, Program}
-use Rattle.g_typed_states.specs.Places.{HaveTypes, line_places, lines_places}
-use Rattle.g_typed_states.specs.Lines.{IsAssignable, types_inside, types_outside, FitsRegister, FitsKept, FitsReference, FitsElement, FitsField, LineFits, IsLoopLine, IsCaseLine, IsFrameLine, IsPlaceLine, AllLines, LinesInside, LinesOutside, LinesFit}
+use Rattle.g_border.specs.Readers.{Reader, has_value, value_on, given_at, place_all, paired, wires_taken}
+use Rattle.g_border.specs.Lines.{Entering, register_value, value_in, latest, default_at, gathered, values_inside, values_outside}
+use Rattle.g_frames.specs.Program.{Program}
+use Rattle.g_typed_states.specs.Lines.{IsAssignable, types_inside, types_outside, LineFits, IsLoopLine, IsCaseLine, IsFrameLine, IsPlaceLine}
 use Rattle.g_typed_states.specs.Typed.{IsTypedValue, AllTyped, IsTypedReader, IsFilled}
 use Rattle.g_typed_states.proofs.Lists.{and_left, and_right, none_is}
 use Rattle.g_typed_states.proofs.Parts.{element-Arr, array_is, array_typed, indexed_typed, index_typed, get_typed, put_typed, replace_typed}
 use Rattle.g_typed_states.proofs.Values.{coerced_value, default_value}
-use Rattle.g_typed_states.proofs.Wires.{IsFine, AreFine, GivesAt, value_typed, value_fine, gives_paired, gives_none, gives_both}
-use Rattle.g_frames.proofs.RunLemmas.{refute, some_is}
+use Rattle.g_typed_states.proofs.Wires.{IsFine, AreFine, value_typed, value_fine}
+use Rattle.g_frames.proofs.RunLemmas.{some_is}
 
 -- values at operands are values at places
 pub given_paired : (l : ℕ) (ks : List ℕ) (vs : List Value) → given_at l ks vs ≡ paired (place_all l ks) vs

@@ -1,23 +1,18 @@
 -- The shared objects of typed states: which they are, and what operations give and leave.
-use Rattle.std.proofs.Common.{◌≡◌, ◌⊎◌, inl, inr, ⊎_elim, Bool, true, false, ℕ, zero, suc, ◌+◌, ◌-◌, ◌<◌, ◌≤◌, List, [], ◌∷◌, ◌++◌, map, length, Option, Some, None, arith, refl, ap, sym, ◌∙◌, subst, add_assoc}
-use Rattle.std.specs.Prelude.{slice_get, slice_set, nat_lt, is_some, if◌then◌else◌}
-use Rattle.std.specs.Option.{option_map, option_and_then}
+use Rattle.std.proofs.Common.{◌≡◌, Bool, true, false, ℕ, zero, suc, ◌+◌, ◌-◌, ◌<◌, ◌≤◌, List, [], ◌∷◌, ◌++◌, map, length, Some, arith, refl, ap, sym, ◌∙◌, subst}
+use Rattle.std.specs.Prelude.{slice_get, slice_set, nat_lt, if◌then◌else◌}
+use Rattle.std.specs.Option.{option_map}
 use Rattle.std.proofs.lemmas.Bool.{ltb-true, ltb-false}
 use Rattle.g_types.specs.declared.ty.Ty.{Ty}
-use Rattle.g_types.specs.declared.ty.Ty.TheVariants as ty
 use Rattle.g_values.specs.declared.value.Value.{Value}
-use Rattle.g_values.specs.Spelled.{IsSpelled}
-use Rattle.g_diagram.specs.declared.panel.PanelItem.{PanelItem}
 use Rattle.g_hier.specs.declared.linked.Space.{Space}
-use Rattle.g_shared.specs.declared.operations.PanelOp.{PanelOp}
-use Rattle.g_shared.specs.Panels.{PanelState, cell_at, with_cell, cell_count}
+use Rattle.g_shared.specs.Panels.{PanelState, cell_at, with_cell}
 use Rattle.g_frames.specs.declared.program.QueueName.{QueueName}
 use Rattle.g_frames.specs.declared.program.CellPlace.{CellPlace}
-use Rattle.g_frames.specs.Contents as content
 use Rattle.g_frames.specs.Contents.{Content}
 use Rattle.g_frames.specs.Program.{Program, panel_object}
-use Rattle.g_frames.proofs.RunLemmas.{refute, some_is}
-use Rattle.g_typed_states.specs.Typed.{Shape, QueueOf, CellOf, PanelOf, PoolOf, panel_shape, shapes, IsTypedValue, AreTyped, IsTypedContent, IsTypedPanel, AreTypedObjects}
+use Rattle.g_frames.proofs.RunLemmas.{some_is}
+use Rattle.g_typed_states.specs.Typed.{Shape, QueueOf, CellOf, PoolOf, panel_shape, shapes, IsTypedValue, AreTyped, IsTypedContent, IsTypedPanel, AreTypedObjects}
 use Rattle.g_typed_states.proofs.Lists.{none_is}
 
 -- ---- lists

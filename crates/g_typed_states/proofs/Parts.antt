@@ -1,12 +1,10 @@
 -- Types and values by their outermost level: elements of arrays, parts of clusters, references.
-use Rattle.std.proofs.Common.{◌≡◌, ◌≤◌, ◌<◌, ◌⊎◌, inl, inr, Bool, true, false, ◌&&◌, ℕ, zero, suc, min, ◌+◌, List, [], ◌∷◌, map, length, cond, Option, Some, None, arith, refl, ap, sym, ◌∙◌, subst}
-use Rattle.std.specs.Prelude.{ℤ, pos, slice_get, not, take, is_some}
+use Rattle.std.proofs.Common.{◌≡◌, ◌≤◌, ◌<◌, true, false, ℕ, zero, suc, List, [], ◌∷◌, map, length, cond, Option, Some, None, arith, refl, ap, sym, ◌∙◌, subst}
+use Rattle.std.specs.Prelude.{ℤ, pos, slice_get, take}
 use Rattle.std.specs.List.{All}
 use Rattle.std.proofs.lemmas.List.{length-map}
 use Rattle.std.proofs.Common.{length-take}
 use Rattle.std.proofs.lemmas.List.Elements.{All-nil, All-cons, All-head, All-tail}
-use Rattle.g_types.specs.declared.rep.Rep.{Rep}
-use Rattle.g_types.specs.declared.rep.Rep.TheVariants.{I64}
 use Rattle.g_types.specs.Rep.{wrap}
 use Rattle.g_types.specs.Ty.{depth, is_num, is_num_at}
 use Rattle.g_types.specs.declared.ty.Ty.{Ty, out-Ty}
@@ -16,7 +14,6 @@ use Rattle.g_types.specs.declared.ty.Ty.TheViews.{roll-Ty, roll-out-Ty}
 use Rattle.g_types.specs.declared.ty.Ty.TheFolds.{map-Ty, every_held-Ty}
 use Rattle.g_types.proofs.Depths.{depth-Arr, depth-QueueRef, depth-ValueRef}
 use Rattle.g_values.specs.Numbers.{Numbers}
-use Rattle.g_values.specs.declared.num.Num.{Num}
 use Rattle.g_values.specs.declared.primitive.Primitive.TheVariants as op
 use Rattle.g_values.specs.declared.value.ArrOf.{ArrOf}
 use Rattle.g_values.specs.declared.value.RefValue.{RefValue}
@@ -27,22 +24,19 @@ use Rattle.g_values.specs.declared.value.Value.TheViews.{roll-Value, roll-out-Va
 use Rattle.g_values.specs.declared.value.Value.TheFolds.{fold_out-Value, map-Value}
 use Rattle.g_values.specs.Proper.{IsProper, most}
 use Rattle.g_values.specs.Spelled.{IsSpelled, IsTypeLayer, IsWholeType, is_array, is_array_at}
-use Rattle.g_values.specs.Typed.{IsOfType}
 use Rattle.g_values.specs.Value.{type_of, type_step}
 use Rattle.g_values.proofs.ProperLemmas.{proper_nums}
 use Rattle.g_values.proofs.ProperParts.{proper_array, spelled_elem, proper_items, layer-of_array}
 use Rattle.g_values.proofs.SpelledTypes.{layer-Arr, spelled_item}
 use Rattle.g_values.proofs.TypesOf.{type-Nums, type-Arr}
-use Rattle.g_prims_definitions.specs.Arithmetic.{nothing}
 use Rattle.g_prims_definitions.specs.Arrays.{index_array, indexed_at, number_of, replace, within, or_default, or_default_number, element as element_in}
-use Rattle.g_prims_definitions.specs.Bits.{items}
 use Rattle.g_prims_definitions.specs.Clusters.{get, put}
 use Rattle.g_prims_definitions.specs.Kinds.{is_assignable, is_assignable_to, item, item_at, part}
 use Rattle.g_prims_definitions.specs.Row.{read, given, another, ends}
-use Rattle.g_prims_definitions.specs.Rows.{row_of, is_element, single, when, is_known}
+use Rattle.g_prims_definitions.specs.Rows.{row_of, single, when, is_known}
 use Rattle.g_typing.specs.Types.{element, queued, queued_at, referred, referred_at}
 use Rattle.g_literals.specs.Values.{array_of}
-use Rattle.g_reference_laws.specs.References.{Reference, HoldsOnly}
+use Rattle.g_reference_laws.specs.References.{HoldsOnly}
 use Rattle.g_reference_laws.proofs.Held.{HoldsAt, level, holds_none, holds_items, references-Nums}
 use Rattle.g_frames.specs.Program.{Program}
 use Rattle.g_frames.proofs.RunLemmas.{some_is}

@@ -1,54 +1,51 @@
 -- The firings of structures in place.
-use Rattle.std.proofs.Common.{◌≡◌, ◌⊎◌, inl, inr, ⊎_elim, Bool, true, false, ◌&&◌, ℕ, zero, suc, ◌+◌, List, [], ◌∷◌, ◌++◌, map, length, Option, Some, None, refl, ap, sym, ◌∙◌, subst}
-use Rattle.std.specs.Prelude.{slice_get, is_some, is_none, ◌==◌, if◌then◌else◌}
-use Rattle.std.specs.Option.{option_map, option_and_then, option_or, unwrap_or}
+use Rattle.std.proofs.Common.{◌≡◌, ◌⊎◌, inl, inr, ⊎_elim, Bool, true, ℕ, ◌+◌, List, [], ◌∷◌, ◌++◌, Option, Some, None, refl, ap, sym, ◌∙◌, subst}
+use Rattle.std.specs.Prelude.{slice_get, is_none}
+use Rattle.std.specs.Option.{option_map, option_and_then, unwrap_or}
 use Rattle.g_types.specs.declared.ty.Ty.{Ty}
 use Rattle.g_types.specs.declared.ty.Ty.TheVariants as ty
 use Rattle.g_values.specs.declared.value.Live.{Live}
-use Rattle.g_values.specs.declared.value.Value.{Value, out-Value}
-use Rattle.g_values.specs.declared.value.Value.TheOpen.{Value-F}
+use Rattle.g_values.specs.declared.value.Value.{Value}
 use Rattle.g_values.specs.Coerce.{coerced}
 use Rattle.g_values.specs.Default.{default}
 use Rattle.g_values.specs.Spelled.{IsSpelled}
 use Rattle.g_prims_definitions.specs.Arithmetic.{nothing}
 use Rattle.g_diagram.specs.declared.node.Tunnel.{Tunnel}
 use Rattle.g_diagram.specs.declared.node.Tunnel.TheVariants as line
-use Rattle.g_diagram.specs.Lines.{Wire, Entry, Kind, InPlace}
-use Rattle.g_diagram.specs.Operands.{Inside, Outside, border}
-use Rattle.g_typing.specs.Types.{Types, wire_type, then_type, referred, whole}
+use Rattle.g_diagram.specs.Lines.{Entry, InPlace}
+use Rattle.g_diagram.specs.Operands.{Inside, Outside}
+use Rattle.g_typing.specs.Types.{Types, wire_type, referred, whole}
 use Rattle.g_shared.specs.declared.reply.Reply.{Reply}
 use Rattle.g_shared.specs.Outcome.{Outcome, reply_of, done as done_code, not_live}
-use Rattle.g_shared.specs.Cells.{CellState, new_cell, keeping, live_value, Body, in_place, in_place_step}
+use Rattle.g_shared.specs.Cells.{CellState, new_cell, live_value, Body, in_place, in_place_step}
 use Rattle.g_border.specs.declared.place.WireSource.{WireSource}
-use Rattle.g_border.specs.Readers.{Reader, Given, has_value, value_on, sources_on, place_all, paired}
-use Rattle.g_border.specs.Lines.{Entering, entering, lines_inside, Leaving, leaving, lines_outside, values_outside, Reference, reference_on, reference_in, other_values, other_places}
-use Rattle.g_border.specs.Bodies.{body_reader}
+use Rattle.g_border.specs.Readers.{Reader, Given, has_value, value_on, paired}
+use Rattle.g_border.specs.Lines.{entering, lines_inside, Leaving, leaving, lines_outside, values_outside, Reference, reference_in, other_values, other_places}
 use Rattle.g_frames.specs.declared.state.Progress.{Progress}
-use Rattle.g_frames.specs.declared.state.Progress.TheVariants as progress
 use Rattle.g_frames.specs.declared.state.Frame.{Frame}
 use Rattle.g_frames.specs.Contents as content
 use Rattle.g_frames.specs.Contents.{Content, Operation, object_step}
 use Rattle.g_frames.specs.Program.{FlatVi, Program}
 use Rattle.g_frames.specs.State.{FireState, reader_in}
-use Rattle.g_frames.specs.Effects.{Effect, gives, guard, Here, after_step}
+use Rattle.g_frames.specs.Effects.{Effect, guard, Here, after_step}
 use Rattle.g_frames.specs.Operations.{serial_of, on_live, no_cell}
 use Rattle.g_frames.specs.InPlace.{place_reader, place_body, place_done, item_at, by_place, place_effect}
 use Rattle.g_frames.specs.Fire.{here}
-use Rattle.g_frames.proofs.RunLemmas.{refute, some_is}
-use Rattle.g_typed_states.specs.Places.{Among, first, later, HasTypeAt, HaveTypes, node_places, line_places, lines_places}
+use Rattle.g_frames.proofs.RunLemmas.{some_is}
+use Rattle.g_typed_states.specs.Places.{Among, later, HasTypeAt, node_places, line_places, lines_places}
 use Rattle.g_typed_states.specs.Lines.{IsPlaceLine, AllLines, types_outside, types_in_place, FitsReference, LineFits, LinesFit, LinesOutside, HasOneReference}
-use Rattle.g_typed_states.specs.Accepted.{AcceptsPlace, IsAcceptedVi}
-use Rattle.g_typed_states.specs.Typed.{Shape, CellOf, shapes, IsTypedValue, IfTyped, IsTypedReader, IsTypedCell, IsTypedContent, IsTypedFrame}
-use Rattle.g_typed_states.proofs.Lists.{and_left, none_is, is_there, no_place, among_cases, among_head, among_append, among_left, among_right}
-use Rattle.g_typed_states.proofs.Values.{coerced_value, default_value}
+use Rattle.g_typed_states.specs.Accepted.{AcceptsPlace}
+use Rattle.g_typed_states.specs.Typed.{CellOf, shapes, IsTypedValue, IfTyped, IsTypedReader, IsTypedCell, IsTypedContent, IsTypedFrame}
+use Rattle.g_typed_states.proofs.Lists.{and_left, none_is, among_cases, among_head, among_append, among_left, among_right}
+use Rattle.g_typed_states.proofs.Values.{default_value}
 use Rattle.g_typed_states.proofs.Parts.{referred-ValueRef, spelled_referred}
-use Rattle.g_typed_states.proofs.Wires.{IsFine, AreFine, GivesAt, gives_none, gives_paired, gives_both, value_typed, value_fine}
+use Rattle.g_typed_states.proofs.Wires.{AreFine, GivesAt, gives_paired, gives_both, value_typed, value_fine}
 use Rattle.g_typed_states.proofs.Inputs.{TakesOf, takes-InPlace, places_of, places-InPlace}
 use Rattle.g_typed_states.proofs.LineValues.{HasTaken, IsWhole, ReferredTyped, InnerHas, whole_has, assigned_typed, then_is, place_outside}
 use Rattle.g_typed_states.proofs.LineGives.{place_inside_gives, place_outside_gives}
 use Rattle.g_typed_states.proofs.Objects.{object_there, shaped_at}
-use Rattle.g_typed_states.proofs.Fits.{Fits, waits, fires, IsFit, Fires, StepFits, accepted_vi, outer_typed, guarded, then_fit, done_fit, changes_fit, unchanged_fit}
-use Rattle.g_typed_states.proofs.Simple.{code_typed, Gave, gave, gave_at, live_cell, kept_set, NamesCell, cell_named, cell_of, content_step}
+use Rattle.g_typed_states.proofs.Fits.{Fits, waits, fires, IsFit, Fires, accepted_vi, outer_typed, guarded, done_fit, changes_fit, unchanged_fit}
+use Rattle.g_typed_states.proofs.Simple.{code_typed, Gave, gave, gave_at, live_cell, kept_set, NamesCell, cell_named, cell_of}
 use Rattle.g_typed_states.proofs.BodySteps.{IsNoReference, no_references, unreferred_typed, plain_outside}
 use Rattle.g_typed_states.proofs.BodyTurns.{body_whole}
 

@@ -1,6 +1,6 @@
 -- The firings of nodes that are done at once: constants, primitives, panels, queues and references.
-use Rattle.std.proofs.Common.{◌≡◌, ◌⊎◌, inl, inr, ⊎_elim, Bool, true, false, ◌&&◌, ℕ, zero, suc, ◌+◌, ◌<◌, List, [], ◌∷◌, ◌++◌, map, length, Option, Some, None, arith, refl, ap, sym, ◌∙◌, subst}
-use Rattle.std.specs.Prelude.{pos, negsuc, slice_get, is_some, is_none, nat_le, ◌==◌, if◌then◌else◌}
+use Rattle.std.proofs.Common.{◌≡◌, Bool, true, false, ◌&&◌, ℕ, ◌<◌, List, [], ◌∷◌, ◌++◌, map, length, Option, Some, None, arith, refl, ap, sym, ◌∙◌, subst}
+use Rattle.std.specs.Prelude.{pos, negsuc, slice_get, is_some, is_none, ◌==◌, if◌then◌else◌}
 use Rattle.std.specs.List.{All}
 use Rattle.std.specs.Option.{option_map, option_and_then, unwrap_or}
 use Rattle.std.proofs.lemmas.List.Elements.{All-nil, All-cons, All-head}
@@ -13,7 +13,6 @@ use Rattle.g_values.specs.declared.primitive.Primitive.{Primitive}
 use Rattle.g_values.specs.declared.value.Live.{Live}
 use Rattle.g_values.specs.declared.value.RefValue.{RefValue}
 use Rattle.g_values.specs.declared.value.Value.{Value, out-Value}
-use Rattle.g_values.specs.declared.value.Value.TheVariants as value
 use Rattle.g_values.specs.declared.value.Value.TheOpen.{Value-F}
 use Rattle.g_values.specs.Coerce.{coerced}
 use Rattle.g_values.specs.Default.{default}
@@ -24,25 +23,23 @@ use Rattle.g_prims_definitions.specs.Values.{outputs_of}
 use Rattle.g_operations.specs.declared.shared.SharedOp.{SharedOp}
 use Rattle.g_operations.specs.declared.shared.SharedOp.TheVariants as shared
 use Rattle.g_diagram.specs.declared.panel.Lit.{Lit}
-use Rattle.g_diagram.specs.Lines.{Wire, Entry, Kind, Const, Apply, Shows, Shared, Obtain, Read, Write}
+use Rattle.g_diagram.specs.Lines.{Wire, Entry, Apply, Shows, Shared, Write}
 use Rattle.g_literals.specs.Values.{literal_value}
 use Rattle.g_typing.specs.Types.{wire_type, wire_at, queued, referred, whole}
 use Rattle.g_typing.specs.Typing.{panel_type, control_types, indicator_types, shared_types, with_code}
-use Rattle.g_reference_laws.specs.References.{Reference, reference, references_of, HoldsOnly}
+use Rattle.g_reference_laws.specs.References.{reference, references_of}
 use Rattle.g_reference_laws.proofs.Held.{references-Queue, references-Cell}
 use Rattle.g_shared.specs.declared.operations.PanelOp.{PanelOp}
 use Rattle.g_shared.specs.declared.operations.PanelOp.TheVariants as panel
 use Rattle.g_shared.specs.declared.operations.QueueOp.{QueueOp}
 use Rattle.g_shared.specs.declared.operations.QueueOp.TheVariants as queue
-use Rattle.g_shared.specs.declared.operations.RefOp.{RefOp}
 use Rattle.g_shared.specs.declared.operations.RefOp.TheVariants as ref
 use Rattle.g_shared.specs.declared.reply.Reply.{Reply}
-use Rattle.g_shared.specs.Outcome.{Outcome, reply_of, count, done as done_code, not_live}
+use Rattle.g_shared.specs.Outcome.{Outcome, reply_of, count}
 use Rattle.g_shared.specs.Panels.{PanelState, panel_step, cell_at, with_cell, as_list}
 use Rattle.g_shared.specs.Queues.{QueueState, new_queue, queue_ref, queue_step, obtain, enqueue, dequeue, release, queue_size, add, made_live, with_items, live_items, is_full}
 use Rattle.g_shared.specs.Cells.{CellState, new_cell, cell_ref, cell_step, delete, made, keeping, live_value}
-use Rattle.g_border.specs.declared.place.WireSource.{WireSource}
-use Rattle.g_border.specs.Readers.{Reader, Given, has_value, value_on, outputs_given, paired, lines_sources}
+use Rattle.g_border.specs.Readers.{Reader, has_value, value_on, outputs_given, paired}
 use Rattle.g_border.specs.Cases.{coerced_to}
 use Rattle.g_frames.specs.declared.state.Progress.{Progress}
 use Rattle.g_frames.specs.declared.state.Progress.TheVariants as progress
@@ -53,21 +50,19 @@ use Rattle.g_frames.specs.Program.{FlatVi, Program, queue_object, cell_object, p
 use Rattle.g_frames.specs.Panels.{cell_number}
 use Rattle.g_frames.specs.State.{FireState, reader_in}
 use Rattle.g_frames.specs.Effects.{Effect, gives, guard, Here, after_step, no_body, on_object}
-use Rattle.g_frames.specs.Operations.{done, on_own_panel, object_named, serial_of, content_named, on_live, no_queue, no_cell, input_at, queue_operation, cell_operation, by_reference, shared_effect}
-use Rattle.g_frames.specs.Fire.{effect, here}
-use Rattle.g_frames.proofs.RunLemmas.{refute, some_is}
-use Rattle.g_typed_states.specs.Places.{Among, HaveTypes, node_places}
-use Rattle.g_typed_states.specs.Lines.{IsAssignable, cell_type}
-use Rattle.g_typed_states.specs.Accepted.{AcceptsConst, AcceptsApply, AcceptsWrite, AcceptsShared, AcceptsObtain, AcceptsRead, AcceptsLocal, PutFits, HasShared, HasQueue, HasCell, HasSpace}
+use Rattle.g_frames.specs.Operations.{done, on_own_panel, serial_of, on_live, no_queue, no_cell, input_at, queue_operation, by_reference, shared_effect}
+use Rattle.g_frames.specs.Fire.{here}
+use Rattle.g_frames.proofs.RunLemmas.{some_is}
+use Rattle.g_typed_states.specs.Places.{HaveTypes, node_places}
+use Rattle.g_typed_states.specs.Accepted.{AcceptsConst, AcceptsApply, AcceptsWrite, AcceptsShared, AcceptsObtain, AcceptsRead, AcceptsLocal, HasShared, HasQueue, HasCell}
 use Rattle.g_typed_states.specs.Typed.{Shape, QueueOf, CellOf, PanelOf, PoolOf, reference_to, shapes, IsNamed, IsTypedValue, AreTyped, AllTyped, IfTyped, IfAllTyped, IsTypedQueue, IsTypedCell, IsTypedPanel, IsTypedContent, IsTypedFrame}
 use Rattle.g_typed_states.proofs.Lists.{and_left, none_is, is_there, among_at}
 use Rattle.g_typed_states.proofs.Values.{coerced_value, default_value, literal_typed, number_value, outputs_typed, all_typed_push}
-use Rattle.g_typed_states.proofs.Parts.{queue_is, cell_is, queued-QueueRef, referred-ValueRef, spelled_queued, spelled_referred, IsReference, queue_value, cell_value}
+use Rattle.g_typed_states.proofs.Parts.{queue_is, cell_is, queued-QueueRef, referred-ValueRef, spelled_queued, spelled_referred, queue_value, cell_value}
 use Rattle.g_typed_states.proofs.Wires.{GivesAt, are_fine, gives_paired, gives_none, values_typed, value_typed}
 use Rattle.g_typed_states.proofs.Inputs.{HaveValues, TakesOf, places_of, inputs_taken}
-use Rattle.g_typed_states.proofs.Objects.{IsObject, object_at, object_there, shaped_at, queue_at, cell_at_place, cell_typed, cell_set}
-use Rattle.g_typed_states.proofs.Frames.{Extends}
-use Rattle.g_typed_states.proofs.Fits.{Fits, waits, fires, IsFit, Fires, StepFits, accepted_vi, outer_typed, guarded, then_fit, done_fit, changes_fit, unchanged_fit, on_object_fit, input_typed, panel_typed, panel_after}
+use Rattle.g_typed_states.proofs.Objects.{object_there, shaped_at, queue_at, cell_at_place, cell_typed, cell_set}
+use Rattle.g_typed_states.proofs.Fits.{Fits, waits, fires, IsFit, Fires, StepFits, accepted_vi, outer_typed, guarded, done_fit, changes_fit, unchanged_fit, on_object_fit, input_typed, panel_typed, panel_after}
 
 -- ---- what queues and cells give
 

@@ -1,11 +1,10 @@
 -- The start is typed, and so is each state that a run reaches from it.
-use Rattle.std.proofs.Common.{◌≡◌, ◌⊎◌, inl, inr, ⊎_elim, Bool, true, false, ℕ, zero, suc, ◌+◌, List, [], ◌∷◌, ◌++◌, map, length, Option, Some, None, arith, refl, ap, sym, ◌∙◌, subst}
-use Rattle.std.specs.Prelude.{slice_get, is_some, ◌==◌, if◌then◌else◌}
+use Rattle.std.proofs.Common.{◌≡◌, ⊎_elim, Bool, true, false, ℕ, zero, suc, ◌+◌, List, [], ◌∷◌, ◌++◌, map, length, Some, None, arith, refl, ap, sym, ◌∙◌, subst}
+use Rattle.std.specs.Prelude.{slice_get, ◌==◌, if◌then◌else◌}
 use Rattle.std.specs.List.{All}
 use Rattle.std.specs.Option.{option_map, option_map_or, option_to_list}
 use Rattle.std.proofs.lemmas.Bool.{eqb-true}
 use Rattle.std.proofs.lemmas.List.Elements.{All-nil, All-cons, All-head, All-tail}
-use Rattle.g_types.specs.declared.ty.Ty.{Ty}
 use Rattle.g_values.specs.declared.value.Value.{Value}
 use Rattle.g_values.specs.Spelled.{IsSpelled}
 use Rattle.g_diagram.specs.declared.panel.PanelItem.{PanelItem}
@@ -19,20 +18,19 @@ use Rattle.g_frames.specs.declared.program.QueueName.{QueueName}
 use Rattle.g_frames.specs.declared.program.CellPlace.{CellPlace}
 use Rattle.g_frames.specs.declared.program.KeptPlace.{KeptPlace}
 use Rattle.g_frames.specs.declared.state.Frame.{Frame}
-use Rattle.g_frames.specs.Contents as content
 use Rattle.g_frames.specs.Contents.{Content}
 use Rattle.g_frames.specs.Program.{FlatVi, Program, vi_at}
 use Rattle.g_frames.specs.Panels.{control_defaults, indicator_defaults, controls_given}
-use Rattle.g_frames.specs.State.{FireState, Opening, opened, first_queues, first_cells, panel_items, first_panel, first_panels, first_pools, first_objects, first_kept, first_opening, start}
+use Rattle.g_frames.specs.State.{FireState, opened, first_queues, first_cells, panel_items, first_panels, first_pools, first_objects, first_kept, first_opening, start}
 use Rattle.g_frames.specs.Fire.{can_fire, fire}
 use Rattle.g_frames.specs.Run.{go_on, after_from, after}
 use Rattle.g_frames.proofs.RunLemmas.{some_is}
 use Rattle.g_typed_states.specs.Places.{Among, first, later}
 use Rattle.g_typed_states.specs.Lines.{IsItemProper}
-use Rattle.g_typed_states.specs.Accepted.{IsAccepted, IsAcceptedVi}
+use Rattle.g_typed_states.specs.Accepted.{IsAccepted}
 use Rattle.g_typed_states.specs.Typed.{Shape, QueueOf, CellOf, PoolOf, panel_shape, shapes, IsNamed, AreTyped, IsTypedFrame, AreTypedObjects, IsTypedState}
 use Rattle.g_typed_states.specs.Laws.{AreControls}
-use Rattle.g_typed_states.proofs.Lists.{none_is, no_place, among_cases, among_at}
+use Rattle.g_typed_states.proofs.Lists.{none_is, no_place, among_cases}
 use Rattle.g_typed_states.proofs.Values.{default_value, default_of_typed, are_typed}
 use Rattle.g_typed_states.proofs.Calls.{all_items, top_opening}
 use Rattle.g_typed_states.proofs.Frames.{IsFitOpening, opened_typed}

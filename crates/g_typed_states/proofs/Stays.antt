@@ -1,33 +1,30 @@
 -- A firing keeps a state typed.
-use Rattle.std.proofs.Common.{◌≡◌, ◌⊎◌, inl, inr, ⊎_elim, Bool, true, false, ◌&&◌, ℕ, zero, suc, ◌+◌, List, [], ◌∷◌, ◌++◌, map, length, Option, Some, None, arith, refl, ap, sym, ◌∙◌, subst}
-use Rattle.std.specs.Prelude.{slice_get, slice_set, is_some, is_none, nat_lt, not}
+use Rattle.std.proofs.Common.{◌≡◌, ◌⊎◌, inl, inr, ⊎_elim, Bool, true, false, ℕ, zero, suc, ◌+◌, List, [], ◌∷◌, ◌++◌, map, length, Option, Some, None, arith, refl, ap, sym, ◌∙◌, subst}
+use Rattle.std.specs.Prelude.{slice_get, slice_set, nat_lt, not}
 use Rattle.std.specs.Option.{option_map, option_and_then, option_map_or, option_to_list}
 use Rattle.g_types.specs.declared.ty.Ty.{Ty}
 use Rattle.g_values.specs.declared.value.Value.{Value}
-use Rattle.g_values.specs.Coerce.{coerced}
-use Rattle.g_diagram.specs.declared.node.Tunnel.{Tunnel}
-use Rattle.g_diagram.specs.Lines.{Wire, Arm, Part, Entry, Kind, Const, Apply, Shows, Shared, Obtain, Read, Write, Call, Loop, Case, Sequence, InPlace}
-use Rattle.g_border.specs.Readers.{Reader}
+use Rattle.g_diagram.specs.Lines.{Entry, Kind, Const, Apply, Shows, Shared, Obtain, Read, Write, Call, Loop, Case, Sequence, InPlace}
 use Rattle.g_frames.specs.declared.firing.Firing.{Firing}
 use Rattle.g_frames.specs.declared.firing.FrameNode.{FrameNode}
 use Rattle.g_frames.specs.declared.program.KeptPlace.{KeptPlace}
 use Rattle.g_frames.specs.declared.state.Progress.{Progress}
 use Rattle.g_frames.specs.declared.state.Frame.{Frame}
 use Rattle.g_frames.specs.Contents.{Content}
-use Rattle.g_frames.specs.Program.{FlatVi, Program, vi_at, numbered}
+use Rattle.g_frames.specs.Program.{FlatVi, Program, vi_at}
 use Rattle.g_frames.specs.State.{FireState, Opening, is_done, nodes_in, reader_in, opened}
 use Rattle.g_frames.specs.Effects.{Effect, guard, Here}
-use Rattle.g_frames.specs.Fire.{effect, is_ready, has_inputs, node_effect, node_on, here, effect_in, effect_with, effect_of, fired_in, fired_frame, fired_frames, opened_frame, objects_after, registers_after, applied, fire}
+use Rattle.g_frames.specs.Fire.{effect, is_ready, has_inputs, node_effect, node_on, here, effect_in, effect_with, effect_of, fired_in, fired_frame, opened_frame, objects_after, registers_after, applied, fire}
 use Rattle.g_frames.specs.Laws.{Continues}
-use Rattle.g_frames.proofs.RunLemmas.{refute, some_is, frames_stay}
+use Rattle.g_frames.proofs.RunLemmas.{some_is, frames_stay}
 use Rattle.g_typed_states.specs.Places.{Among, first, later}
 use Rattle.g_typed_states.specs.Accepted.{AcceptsKind, HasInSpace, IsAccepted}
-use Rattle.g_typed_states.specs.Typed.{shapes, IsTypedValue, AreTyped, AreTypedObjects, IsTypedProgress, IsTypedNode, IsTypedFrame, IsTypedState}
-use Rattle.g_typed_states.proofs.Lists.{and_left, and_right, none_is, is_there, no_place, among_cases}
+use Rattle.g_typed_states.specs.Typed.{shapes, IsTypedValue, AreTyped, AreTypedObjects, IsTypedProgress, IsTypedFrame, IsTypedState}
+use Rattle.g_typed_states.proofs.Lists.{and_right, none_is, no_place, among_cases}
 use Rattle.g_typed_states.proofs.Inputs.{TakesOf}
 use Rattle.g_typed_states.proofs.Objects.{object_set, values_set, mapped_at, at_back}
 use Rattle.g_typed_states.proofs.Frames.{Extends, frame_still, node_among, fired_frame_typed, IsFitOpening, opened_typed}
-use Rattle.g_typed_states.proofs.Fits.{OpenedIn, IsFit, Fits, waits, fires, Fires, accepts, in_space}
+use Rattle.g_typed_states.proofs.Fits.{OpenedIn, IsFit, Fits, fires, Fires, accepts, in_space}
 use Rattle.g_typed_states.proofs.Simple.{const_fit, apply_fit, shows_fit, local_fit, read_fit, obtain_fit, shared_fit}
 use Rattle.g_typed_states.proofs.Structures.{loop_fit, case_fit, sequence_fit}
 use Rattle.g_typed_states.proofs.Calls.{call_fit}

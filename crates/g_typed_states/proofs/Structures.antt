@@ -1,44 +1,40 @@
 -- The firings of loops, cases and sequences.
-use Rattle.std.proofs.Common.{◌≡◌, ◌⊎◌, inl, inr, ⊎_elim, Bool, true, false, ◌&&◌, ℕ, zero, suc, ◌+◌, ◌≤◌, ◌<◌, List, [], ◌∷◌, ◌++◌, map, length, Option, Some, None, arith, refl, ap, sym, ◌∙◌, subst, eq-eqb}
-use Rattle.std.specs.Prelude.{pos, slice_get, is_some, is_none, ◌==◌, if◌then◌else◌}
-use Rattle.std.specs.List.{list_any}
-use Rattle.std.specs.Option.{option_map, option_and_then, option_map_or, option_or, option_to_list}
+use Rattle.std.proofs.Common.{◌≡◌, inl, inr, ⊎_elim, Bool, true, false, ℕ, ◌+◌, ◌≤◌, List, [], ◌∷◌, ◌++◌, map, length, Option, Some, None, arith, refl, ap, sym, ◌∙◌, subst, eq-eqb}
+use Rattle.std.specs.Prelude.{pos, slice_get, is_none, ◌==◌, if◌then◌else◌}
+use Rattle.std.specs.Option.{option_map, option_map_or, option_to_list}
 use Rattle.std.proofs.lemmas.Bool.{eqb-true}
 use Rattle.g_types.specs.declared.rep.Rep.TheVariants.{I32}
 use Rattle.g_types.specs.declared.ty.Ty.{Ty}
-use Rattle.g_values.specs.declared.value.Value.{Value, out-Value}
+use Rattle.g_values.specs.declared.value.Value.{Value}
 use Rattle.g_values.specs.Spelled.{IsSpelled}
-use Rattle.g_prims_definitions.specs.Arithmetic.{number, nothing}
+use Rattle.g_prims_definitions.specs.Arithmetic.{number}
 use Rattle.g_prims_definitions.specs.Arrays.{or_default}
-use Rattle.g_diagram.specs.declared.node.Selector.{Selector}
 use Rattle.g_diagram.specs.declared.node.Tunnel.{Tunnel}
 use Rattle.g_diagram.specs.declared.node.Tunnel.TheVariants as line
-use Rattle.g_diagram.specs.Lines.{Wire, Arm, Part, Entry, Kind, Loop, Case, Sequence}
-use Rattle.g_diagram.specs.Operands.{Inside, Outside, loop_header}
-use Rattle.g_typing.specs.Types.{Types, wire_type}
-use Rattle.g_rules_cases.specs.Held.{names_at, is_default}
+use Rattle.g_diagram.specs.Lines.{Wire, Arm, Part, Entry, Loop, Case, Sequence}
+use Rattle.g_diagram.specs.Operands.{Inside, loop_header}
 use Rattle.g_border.specs.declared.place.WireSource.{WireSource}
-use Rattle.g_border.specs.Readers.{Reader, Given, has_value, value_on, given_on, sources_on, place_all, source_of}
+use Rattle.g_border.specs.Readers.{Reader, Given, value_on, given_on, sources_on, place_all}
 use Rattle.g_border.specs.Lines.{Entering, entering, lines_inside, Leaving, leaving, lines_outside, latest, values_outside, parts_outside}
-use Rattle.g_border.specs.Loops.{has_ended, iteration_inside, kept_registers, kept_lines}
-use Rattle.g_border.specs.Cases.{first_arm, chosen, results_outside, arm_at}
+use Rattle.g_border.specs.Loops.{has_ended, iteration_inside, kept_registers}
+use Rattle.g_border.specs.Cases.{chosen, results_outside, arm_at}
 use Rattle.g_frames.specs.declared.program.KeptPlace.{KeptPlace}
 use Rattle.g_frames.specs.declared.state.Progress.{Progress}
 use Rattle.g_frames.specs.declared.state.Progress.TheVariants as progress
 use Rattle.g_frames.specs.declared.state.Frame.{Frame}
 use Rattle.g_frames.specs.Program.{FlatVi, Program, vi_at, kept_number}
-use Rattle.g_frames.specs.State.{FireState, Opening, is_complete, reader_in}
-use Rattle.g_frames.specs.Effects.{Effect, gives, opens, guard, Here, next_frame, inside}
+use Rattle.g_frames.specs.State.{FireState, is_complete, reader_in}
+use Rattle.g_frames.specs.Effects.{Effect, gives, opens, guard, Here, inside}
 use Rattle.g_frames.specs.Operations.{input_at}
 use Rattle.g_frames.specs.Structures.{readers_of, is_complete_at, is_latest_complete, kept_at, kept_now, kept_after, loop_ends, loop_goes_on, loop_effect, branch_opens, branch_results, case_ends, case_effect, part_opens, next_part, sequence_effect}
 use Rattle.g_frames.specs.Fire.{here}
 use Rattle.g_frames.proofs.RunLemmas.{refute, some_is}
 use Rattle.g_typed_states.specs.Places.{Among, first, later, IsSupplied, node_places, lines_places}
-use Rattle.g_typed_states.specs.Lines.{AllLines, types_outside, LineFits, LinesFit}
+use Rattle.g_typed_states.specs.Lines.{AllLines, types_outside, LinesFit}
 use Rattle.g_typed_states.specs.Accepted.{AcceptsLoop, AcceptsCase, AcceptsPart, AcceptsParts, HasKept}
-use Rattle.g_typed_states.specs.Typed.{IsTypedValue, AreTyped, IsTypedReader, IsFilled, has_given, IsInner, IsEnded, AreInner, IsTypedLoop, IsTypedBranch, IsTypedProgress, IsTypedNode, IsTypedFrame}
-use Rattle.g_typed_states.proofs.Lists.{and_left, none_is, is_there, no_place, among_cases, among_head, among_append, among_left, among_right, among_at}
-use Rattle.g_typed_states.proofs.Wires.{AreFine, GivesAt, gives_both, value_typed}
+use Rattle.g_typed_states.specs.Typed.{IsTypedValue, AreTyped, IsTypedReader, IsFilled, IsInner, IsEnded, AreInner, IsTypedLoop, IsTypedBranch, IsTypedProgress, IsTypedFrame}
+use Rattle.g_typed_states.proofs.Lists.{none_is, no_place, among_cases}
+use Rattle.g_typed_states.proofs.Wires.{AreFine, GivesAt, gives_both}
 use Rattle.g_typed_states.proofs.LineValues.{HasTaken, IsWhole, AllWhole, KeptTyped, latest_whole}
 use Rattle.g_typed_states.proofs.Inputs.{AllParts, TakesOf, takes-Loop, takes-Case, takes-Sequence, places_of, places-Loop, places-Case, places-Sequence}
 use Rattle.g_typed_states.proofs.LineGives.{EachLine, loop_inside_gives, header_gives, loop_outside_each, loop_outside_gives, case_inside_gives, results_give, part_inside_gives, PartsWhole, parts_give}

@@ -1,17 +1,17 @@
 -- Values that are typed.
-use Rattle.std.proofs.Common.{◌≡◌, ◌≤◌, ◌<◌, ◌⊎◌, inl, inr, Bool, true, false, ◌&&◌, ◌||◌, ℕ, suc, ◌+◌, List, [], ◌∷◌, ◌++◌, map, length, Option, Some, None, arith, refl, ap, sym, ◌∙◌, subst}
-use Rattle.std.specs.Prelude.{ℤ, pos, slice_get}
+use Rattle.std.proofs.Common.{◌≡◌, inl, inr, Bool, true, false, ◌&&◌, ◌||◌, List, [], ◌∷◌, ◌++◌, map, Option, Some, None, refl, ap, sym, ◌∙◌, subst}
+use Rattle.std.specs.Prelude.{ℤ}
 use Rattle.std.specs.List.{All}
 use Rattle.std.proofs.lemmas.List.Elements.{All-nil, All-cons, All-head, All-tail}
 use Rattle.g_types.specs.declared.rep.Rep.{Rep}
-use Rattle.g_types.specs.declared.ty.Ty.{Ty, out-Ty}
+use Rattle.g_types.specs.declared.ty.Ty.{Ty}
 use Rattle.g_types.specs.declared.ty.Ty.TheVariants as ty
 use Rattle.g_types.specs.Same.{same_type}
 use Rattle.g_types.specs.Ty.{is_num, is_nums, IsAssignable}
 use Rattle.g_types.proofs.SameLemmas.{same_type-true}
 use Rattle.g_values.specs.declared.num.Num.{Num}
 use Rattle.g_values.specs.declared.primitive.Primitive.{Primitive}
-use Rattle.g_values.specs.declared.value.Value.{Value, out-Value}
+use Rattle.g_values.specs.declared.value.Value.{Value}
 use Rattle.g_values.specs.declared.value.Value.TheVariants as value
 use Rattle.g_values.specs.Coerce.{coerced}
 use Rattle.g_values.specs.Default.{default}
@@ -34,7 +34,7 @@ use Rattle.g_diagram.specs.declared.panel.Lit.{Lit}
 use Rattle.g_typing.specs.Literals.{is_value_of, is_default_of}
 use Rattle.g_literals.specs.Values.{literal_value}
 use Rattle.g_literals.proofs.TypedValues.{typed_literal}
-use Rattle.g_reference_laws.specs.References.{Reference, references_of, HoldsOnly}
+use Rattle.g_reference_laws.specs.References.{references_of, HoldsOnly}
 use Rattle.g_reference_laws.proofs.Held.{holds_none, references-Num, references-Bool}
 use Rattle.g_reference_laws.proofs.Outputs.{outputs_hold_only}
 use Rattle.g_reference_laws.proofs.Plain.{defaults_hold_none, coerced_holds_the_same}

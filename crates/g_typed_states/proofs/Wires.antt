@@ -1,8 +1,8 @@
 -- Values on wires, and what becomes of them where values are given.
-use Rattle.std.proofs.Common.{◌≡◌, ◌⊎◌, inl, inr, ⊎_elim, Bool, true, false, ◌&&◌, ℕ, zero, suc, List, [], ◌∷◌, ◌++◌, map, length, cond, Option, Some, None, refl, ap, sym, ◌∙◌, subst, eq-eqb}
+use Rattle.std.proofs.Common.{◌≡◌, ◌⊎◌, inl, inr, ⊎_elim, Bool, true, false, ◌&&◌, ℕ, suc, List, [], ◌∷◌, ◌++◌, map, length, Option, Some, None, refl, ap, sym, ◌∙◌, subst, eq-eqb}
 use Rattle.std.specs.Prelude.{is_some, slice_get, ◌==◌, if◌then◌else◌}
 use Rattle.std.specs.List.{list_all}
-use Rattle.std.specs.Option.{option_map, option_and_then, option_or}
+use Rattle.std.specs.Option.{option_and_then, option_or}
 use Rattle.std.proofs.lemmas.Bool.{eqb-true}
 use Rattle.g_types.specs.declared.ty.Ty.{Ty}
 use Rattle.g_values.specs.declared.value.Value.{Value}
@@ -13,13 +13,12 @@ use Rattle.g_prims_definitions.specs.Clusters.{or_nothing}
 use Rattle.g_typing.specs.Types.{Types, wire_type, wire_types, both as both_types}
 use Rattle.g_border.specs.declared.place.WireSource.{WireSource}
 use Rattle.g_border.specs.Readers.{Reader, Given, has_value, value_on, same_source, value_given, source_of, paired}
-use Rattle.g_frames.specs.declared.state.Frame.{Frame}
 use Rattle.g_frames.specs.Program.{FlatVi, Program}
-use Rattle.g_frames.specs.State.{sources_in, value_at, with_value, with_given, reader_in}
+use Rattle.g_frames.specs.State.{sources_in, value_at, with_value, with_given}
 use Rattle.g_frames.proofs.RunLemmas.{refute, some_is}
-use Rattle.g_typed_states.specs.Places.{Among, first, later, HasTypeAt, IsUnnamed, HaveTypes}
+use Rattle.g_typed_states.specs.Places.{Among, later, HaveTypes}
 use Rattle.g_typed_states.proofs.Lists.{and_left, and_right, none_is, is_there, no_suc, one_less, no_place, among_cases, among_head, among_append}
-use Rattle.g_typed_states.specs.Typed.{IsTypedValue, AreTyped, IsTypedReader, IsFilled}
+use Rattle.g_typed_states.specs.Typed.{IsTypedValue, AreTyped, IsTypedReader}
 
 -- ---- sources
 

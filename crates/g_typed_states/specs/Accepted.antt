@@ -1,6 +1,6 @@
 -- What an accepted hierarchy's program has, as far as the typing of states needs it: of each VI and each of its nodes, which types its wires have
 -- and that they fit, and what each data space has of each node.
-use Rattle.std.specs.Prelude.{ℕ, ◌+◌, ◌≡◌, ◌≤◌, ◌==◌, Bool, true, ◌&&◌, List, [], ◌∷◌, ◌++◌, map, Option, Some, None, is_some, slice_get}
+use Rattle.std.specs.Prelude.{ℕ, ◌+◌, ◌≡◌, ◌≤◌, ◌==◌, true, ◌&&◌, List, [], ◌∷◌, ◌++◌, map, Option, Some, None, is_some, slice_get}
 use Rattle.g_types.specs.declared.ty.Ty.{Ty}
 use Rattle.g_types.specs.declared.ty.Ty.TheVariants as ty
 use Rattle.g_values.specs.declared.primitive.Primitive.{Primitive}
@@ -11,18 +11,16 @@ use Rattle.g_prims_definitions.specs.Rows.{row_of}
 use Rattle.g_operations.specs.declared.shared.SharedOp.{SharedOp}
 use Rattle.g_operations.specs.declared.shared.SharedOp.TheVariants as shared
 use Rattle.g_diagram.specs.declared.node.Tunnel.{Tunnel}
-use Rattle.g_diagram.specs.declared.node.Tunnel.TheVariants as line
 use Rattle.g_diagram.specs.declared.panel.Lit.{Lit}
 use Rattle.g_diagram.specs.declared.panel.PanelItem.{PanelItem}
 use Rattle.g_diagram.specs.Lines.{Wire, Arm, Part, Entry, Kind, Const, Apply, Shows, Shared, Obtain, Read, Write, Call, Loop, Case, Sequence, InPlace}
-use Rattle.g_diagram.specs.Operands.{Inside, Outside, loop_header}
+use Rattle.g_diagram.specs.Operands.{Inside, loop_header}
 use Rattle.g_typing.specs.Types.{Types, wire_type, wire_types, wire_at, queued, whole}
 use Rattle.g_typing.specs.Typing.{panel_type, indicator_types, shared_types, next_result}
 use Rattle.g_typing.specs.Rows.{fits_shared}
 use Rattle.g_typing.specs.Literals.{is_value_of}
 use Rattle.g_hier.specs.declared.linked.Space.{Space}
 use Rattle.g_shared.specs.Queues.{IsSize}
-use Rattle.g_border.specs.declared.place.WireSource.{WireSource}
 use Rattle.g_border.specs.Readers.{source_of, sources_on, place_all}
 use Rattle.g_border.specs.Cases.{chosen}
 use Rattle.g_border.specs.Loops.{kept_registers}

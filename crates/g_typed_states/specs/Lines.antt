@@ -7,7 +7,6 @@ use Rattle.g_values.specs.Spelled.{IsSpelled}
 use Rattle.g_prims_definitions.specs.Kinds.{is_assignable, part, array_of}
 use Rattle.g_diagram.specs.declared.node.Tunnel.{Tunnel}
 use Rattle.g_diagram.specs.declared.node.Tunnel.TheVariants as line
-use Rattle.g_diagram.specs.declared.panel.Lit.{Lit}
 use Rattle.g_diagram.specs.declared.panel.PanelItem.{PanelItem}
 use Rattle.g_diagram.specs.declared.panel.PanelItem.TheVariants.{Control, Indicator}
 use Rattle.g_diagram.specs.Lines.{Wire, Arm}

@@ -6,8 +6,7 @@ use Rattle.g_types.specs.declared.ty.Ty.TheVariants as ty
 use Rattle.g_values.specs.declared.value.Value.{Value}
 use Rattle.g_values.specs.Typed.{IsOfType}
 use Rattle.g_diagram.specs.declared.node.Tunnel.{Tunnel}
-use Rattle.g_diagram.specs.Lines.{Wire, Arm, Part, Entry, Kind, Const, Apply, Shows, Shared, Obtain, Read, Write, Call, Loop, Case, Sequence, InPlace}
-use Rattle.g_typing.specs.Types.{Types}
+use Rattle.g_diagram.specs.Lines.{Arm, Entry, Kind, Loop, Case, Sequence}
 use Rattle.g_typing.specs.Typing.{control_types, indicator_types}
 use Rattle.g_reference_laws.specs.References.{Reference, HoldsOnly}
 use Rattle.g_hier.specs.declared.linked.Space.{Space}
@@ -25,7 +24,7 @@ use Rattle.g_frames.specs.declared.state.Frame.{Frame}
 use Rattle.g_frames.specs.Contents as content
 use Rattle.g_frames.specs.Contents.{Content}
 use Rattle.g_frames.specs.Program.{FlatVi, Program, vi_at}
-use Rattle.g_frames.specs.State.{FireState, panel_items, sources_in, nodes_in, value_at, reader_in}
+use Rattle.g_frames.specs.State.{FireState, panel_items, sources_in, nodes_in, reader_in}
 use Rattle.g_typed_states.specs.Places.{Among, node_places, IsNodePlace}
 use Rattle.g_typed_states.specs.Accepted.{HasSpace}
 
