@@ -130,7 +130,7 @@ called_fits h l inputs choice p v (Some called) = call_fits h l inputs choice p 
 -- ---- queues and references
 
 by_queue_fits : (objects : List Content) (e : Entry) (o : SharedOp) (put : Value) (t : Ty) (at : Option Live) →
-    ((l : Live) (q : QueueState) → at ≡ Some l → slice_get objects l.object ≡ Some (content.Queue q) → IsOfType q.item (coerced put t)) →
+    (o ≡ shared.Enqueue → (l : Live) (q : QueueState) → at ≡ Some l → slice_get objects l.object ≡ Some (content.Queue q) → IsOfType q.item (coerced put t)) →
     PlanFits objects (by_queue e o put t at)
 by_queue_fits objects e shared.Enqueue put t None fits = tt
 by_queue_fits objects e shared.Dequeue put t None fits = tt
@@ -138,7 +138,7 @@ by_queue_fits objects e shared.Release put t None fits = tt
 by_queue_fits objects e shared.Size put t None fits = tt
 by_queue_fits objects e shared.NewRef put t None fits = tt
 by_queue_fits objects e shared.DelRef put t None fits = tt
-by_queue_fits objects e shared.Enqueue put t (Some l) fits = queue_fits objects l.object (queue.Enqueue l.serial (coerced put t)) (λ q is. fits l q refl is)
+by_queue_fits objects e shared.Enqueue put t (Some l) fits = queue_fits objects l.object (queue.Enqueue l.serial (coerced put t)) (λ q is. fits refl l q refl is)
 by_queue_fits objects e shared.Dequeue put t (Some l) fits = queue_fits objects l.object (queue.Dequeue l.serial) (λ q is. tt)
 by_queue_fits objects e shared.Release put t (Some l) fits = queue_fits objects l.object (queue.Release l.serial) (λ q is. tt)
 by_queue_fits objects e shared.Size put t (Some l) fits = queue_fits objects l.object (queue.Size l.serial) (λ q is. tt)
@@ -159,7 +159,8 @@ by_cell_fits objects e shared.Size t (Some l) = tt
 by_cell_fits objects e shared.NewRef t (Some l) = tt
 by_cell_fits objects e shared.DelRef t (Some l) = cell_fits objects l.object (ref.Delete l.serial) (λ s is. tt)
 
-reference_fits : (objects : List Content) (e : Entry) (o : SharedOp) (put : Value) (v : Value-F Value) → FitsQueue objects put v → PlanFits objects (by_reference e o put v)
+reference_fits : (objects : List Content) (e : Entry) (o : SharedOp) (put : Value) (v : Value-F Value) → (o ≡ shared.Enqueue → FitsQueue objects put v) →
+    PlanFits objects (by_reference e o put v)
 reference_fits objects e o put (Value-F.Num x) fits = tt
 reference_fits objects e o put (Value-F.Bool b) fits = tt
 reference_fits objects e o put (Value-F.Str s) fits = tt
@@ -169,8 +170,8 @@ reference_fits objects e o put (Value-F.Cluster ws) fits = tt
 reference_fits objects e o put (Value-F.Queue r) fits = by_queue_fits objects e o put r.elem r.at fits
 reference_fits objects e o put (Value-F.Cell r) fits = by_cell_fits objects e o r.elem r.at
 
-shared_fits : (h : Here) (e : Entry) (o : SharedOp) (vs : List Value) → FitsShared h e.line vs → PlanFits h.objects (shared_plan h e o vs)
-shared_fits h e shared.NewRef vs fits = cell_fits h.objects (cell_object h.program h.frame.space e.line) (ref.Make (input_at vs 0)) fits.cell
+shared_fits : (h : Here) (e : Entry) (o : SharedOp) (vs : List Value) → FitsShared h e.line o vs → PlanFits h.objects (shared_plan h e o vs)
+shared_fits h e shared.NewRef vs fits = cell_fits h.objects (cell_object h.program h.frame.space e.line) (ref.Make (input_at vs 0)) (fits.cell refl)
 shared_fits h e shared.Enqueue vs fits = reference_fits h.objects e shared.Enqueue (input_at vs 1) (out-Value (input_at vs 0)) fits.queue
 shared_fits h e shared.Dequeue vs fits = reference_fits h.objects e shared.Dequeue (input_at vs 1) (out-Value (input_at vs 0)) fits.queue
 shared_fits h e shared.Release vs fits = reference_fits h.objects e shared.Release (input_at vs 1) (out-Value (input_at vs 0)) fits.queue

@@ -11,6 +11,8 @@ use Rattle.g_values.specs.Coerce.{coerced}
 use Rattle.g_values.specs.Proper.{IsProper}
 use Rattle.g_values.specs.Typed.{IsOfType}
 use Rattle.g_prims_definitions.specs.Conditions.{HasRow}
+use Rattle.g_operations.specs.declared.shared.SharedOp.{SharedOp}
+use Rattle.g_operations.specs.declared.shared.SharedOp.TheVariants as shared
 use Rattle.g_diagram.specs.declared.node.Tunnel.{Tunnel}
 use Rattle.g_diagram.specs.Lines.{Wire, Entry, Kind, Const, Apply, Shows, Shared, Obtain, Read, Write, Call, Loop, Case, Sequence, InPlace}
 use Rattle.g_typing.specs.Typing.{panel_type}
@@ -55,10 +57,10 @@ abbrev pub FitsCell : Here → (line : ℕ) → Value → Type 0
 FitsCell h l v = (c : CellState) → slice_get h.objects (cell_object h.program h.frame.space l) ≡ Some (content.Cell c) → IsOfType c.content v
 
 -- an operation on a queue or a reference, with these inputs
-pub record FitsShared (h : Here) (line : ℕ) (vs : List Value) : Type 0 where
+pub record FitsShared (h : Here) (line : ℕ) (op : SharedOp) (vs : List Value) : Type 0 where
   pub names : NamesObjectIn h.objects (out-Value (input_at vs 0))
-  pub queue : FitsQueue h.objects (input_at vs 1) (out-Value (input_at vs 0))
-  pub cell : FitsCell h line (input_at vs 0)
+  pub queue : op ≡ shared.Enqueue → FitsQueue h.objects (input_at vs 1) (out-Value (input_at vs 0))
+  pub cell : op ≡ shared.NewRef → FitsCell h line (input_at vs 0)
 
 -- the arguments of a call are proper
 abbrev pub FitsCall : Here → (name : List ℕ) → (inputs : List Wire) → Type 0
@@ -83,7 +85,7 @@ abbrev pub Needs : Here → Entry → Kind → Type 0
 Needs h e (Const t literal out) = Unit {0}
 Needs h e (Apply op inputs outputs) = FitsPrimitive op (map (value_on h.outer) inputs)
 Needs h e (Shows name t w) = IsProper (coerced (value_on h.outer w) t)
-Needs h e (Shared op inputs outputs) = FitsShared h e.line (map (value_on h.outer) inputs)
+Needs h e (Shared op inputs outputs) = FitsShared h e.line op (map (value_on h.outer) inputs)
 Needs h e (Obtain name size item out) = Unit {0}
 Needs h e (Read name out) = Unit {0}
 Needs h e (Write name w) = IsProper (coerced_to (panel_type h.vi.panel name) (value_on h.outer w))
