@@ -1,0 +1,5 @@
+pub mod Kept
+pub mod Numbers
+pub mod Pools
+pub mod Queues
+pub mod Tables
