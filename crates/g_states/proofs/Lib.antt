@@ -1,4 +1,0 @@
-pub mod GiveLemmas
-pub mod StepLemmas
-pub mod ObjectLemmas
-pub mod ApplyLemmas
