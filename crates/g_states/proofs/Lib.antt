@@ -1,0 +1,4 @@
+pub mod GiveLemmas
+pub mod StepLemmas
+pub mod ObjectLemmas
+pub mod ApplyLemmas
