@@ -86,8 +86,9 @@ impl<'a> Here<'a> {
     pub fn latest_of(&self, numbers: &[u64]) -> Option<Wires<'a>>
         ensures { (h : effects.Here) → IsHere self.now h → option_map reader result ≡ latest (readers_of h numbers.now) }
     {
-        for number in numbers.iter().rev() {
-            if let Some(frame) = self.frame_at(*number) {
+        for after in 0..numbers.len() {
+            let number = numbers[numbers.len() - 1 - after];
+            if let Some(frame) = self.frame_at(number) {
                 return Some(self.wires_in(frame));
             }
         }
