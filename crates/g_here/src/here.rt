@@ -39,7 +39,8 @@ impl<'a> Here<'a> {
     pub fn wires_in(&self, frame: &'a Frame) -> Wires<'a>
         ensures { (h : effects.Here) → IsHere self.now h → reader result ≡ reader_in h.vi frame.now }
     {
-        self.table.wires(frame.diagram, frame.values.as_slice())
+        let values = frame.values.as_slice();
+        self.table.wires(frame.diagram, values)
     }
 
     /// The frame of a number, if there is one.
@@ -60,13 +61,14 @@ impl<'a> Here<'a> {
     }
 
     /// Whether the latest of some frames is complete, or there is none.
+    #[tactic(auto, using(crate::proofs::LatestLemmas::latest_last))]
     pub fn is_latest_complete(&self, numbers: &[u64]) -> bool
         ensures { (h : effects.Here) → IsHere self.now h → result ≡ is_latest_complete h numbers.now }
     {
-        match numbers.last() {
-            Some(number) => self.is_complete_at(*number),
-            None => true,
+        if numbers.is_empty() {
+            return true;
         }
+        self.is_complete_at(numbers[numbers.len() - 1])
     }
 
     /// The values on the wires of each of some frames.
