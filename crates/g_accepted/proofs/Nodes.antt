@@ -40,7 +40,7 @@ use Rattle.g_infer_laws.specs.OwnLines.{has_own_lines}
 use Rattle.g_infer_laws.proofs.Rules.{Fed}
 use Rattle.g_infer_laws.proofs.Held.{OperandsHold, LinesHold}
 use Rattle.g_typed_states.specs.Places.{HaveTypes, node_places}
-use Rattle.g_typed_states.specs.Lines.{IsAssignable, types_inside, types_outside, LineFits, LinesInside, LinesOutside, LinesFit, ArgumentFits, ArgumentsFit}
+use Rattle.g_typed_states.specs.Lines.{IsAssignable, IsLastKnown, AllLines, types_inside, types_outside, LineFits, LinesInside, LinesOutside, LinesFit, ArgumentFits, ArgumentsFit}
 use Rattle.g_typed_states.specs.Accepted.{AcceptsConst, AcceptsApply, PutFits, AcceptsShared, AcceptsObtain}
 use Rattle.g_accepted.proofs.Facts.{IsIn, all_left, all_right, nil_left, nil_right, and_first, and_second, some_same, the_one}
 use Rattle.g_accepted.proofs.Placed.{flat, lines, line_typed, plain_typed, named, outputs_typed, after_inputs, after_call, call_sources, inside_typed, is_plain_line, outside_typed}
@@ -405,3 +405,22 @@ module _ (vis : List Vi) (vi : Vi) (M : Types) (has : ℕ → List ℕ → Bool)
     lines_fit e b before_lines (l + 1) ts fed.1 (nil_right (line_misses M v e.diagram b l t) (lines_miss M v e.diagram b (l + 1) ts) rows)
         (nil_right (line_unlike M v e.diagram b l t) (lines_unlike M v e.diagram b (l + 1) ts) like) spelled.1,
   )
+
+  -- what a line gives as it stands inside has a type
+  last_known : (m : Line) (b : ℕ) (t : Tunnel) → m.inside ≡ b ∷ [] → OperandsHold (Fed G) m (border t) → IsLastKnown M b t
+  last_known m b (line.Tunnel outer inner) one fed = tt
+  last_known m b (line.Register initial inner next last) one fed = tt
+  last_known m b (line.Kept t inner next last) one fed = tt
+  last_known m b (line.Last inner outer) one fed = the_one (wire_type M b inner) (known b inner (inner_fed m b false inner one fed.0))
+  last_known m b (line.Gather inner outer) one fed = tt
+  last_known m b (line.Index array inner) one fed = tt
+  last_known m b (line.Result outer default) one fed = tt
+  last_known m b (line.Carry earlier inner) one fed = tt
+  last_known m b (line.Ref reference inner next same code) one fed = tt
+  last_known m b (line.Element array index inner next outer) one fed = tt
+  last_known m b (line.Field k cluster inner next outer) one fed = tt
+
+  pub lasts_known : (e : Entry) (b : ℕ) (before_lines : List ℕ) (l : ℕ) (ts : List Tunnel) → LinesHold (Fed G) (border_lines e (b ∷ []) before_lines border l ts) → AllLines (IsLastKnown M b) ts
+  lasts_known e b before_lines l [] fed = tt
+  lasts_known e b before_lines l (t ∷ ts) fed =
+      (last_known (on_border e (b ∷ []) before_lines border l t) b t refl fed.0, lasts_known e b before_lines (l + 1) ts fed.1)

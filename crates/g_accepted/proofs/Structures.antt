@@ -43,7 +43,7 @@ use Rattle.g_typed_states.specs.Bodies.{IsWorkedOut}
 use Rattle.g_typed_states.specs.Accepted.{AcceptsLoop, AcceptsCase, AllGivesFit, AcceptsParts, AcceptsPlace}
 use Rattle.g_accepted.proofs.Facts.{IsIn, in_left, in_right, all_left, all_right, nil_left, nil_right, and_first, and_second, and_both, none_some, the_one, of_one}
 use Rattle.g_accepted.proofs.Placed.{flat, lines, line_typed, TypesOn, named, case_sources, inside_typed, is_plain_line, outside_typed}
-use Rattle.g_accepted.proofs.Nodes.{IsKnown, NodeFacts, passed, assignable, kind_is, known, lines_inside_typed, lines_outside_typed, lines_fit}
+use Rattle.g_accepted.proofs.Nodes.{IsKnown, NodeFacts, passed, assignable, kind_is, known, lines_inside_typed, lines_outside_typed, lines_fit, lasts_known}
 
 pub from_among : {A : Type 0} (x : A) (xs : List A) → Among x xs → IsIn x xs
 from_among x _ first = inl refl
@@ -461,6 +461,7 @@ module _ (vis : List Vi) (vi : Vi) (M : Types) (has : ℕ → List ℕ → Bool)
             (λ b is. of_single (λ x. AllByRecursion (HasGiven M) (lines_inside M e.diagram x None ts)) body (all_left (HasGiven M) ins outs f.given) b is);
         outside = places_typed_outside e body (e.line + 1) ts f.own f.stands f.fed (all_right (HasGiven M) ins outs f.given);
         fits = lines_fit vis vi M has v e body [] (e.line + 1) ts f.fed f.rows f.like (recursion_from_All IsLineSpelled ts f.spelled);
+        lasts = lasts_known vis vi M has v e body [] (e.line + 1) ts f.fed;
         one = one_reference (e.line + 1) allowed ts spare;
         worked_out = worked_out;
       }

@@ -30,7 +30,7 @@ use Rattle.g_frames.specs.declared.program.KeptPlace.{KeptPlace}
 use Rattle.g_frames.specs.Program.{FlatVi, Program, vi_at, numbered, place_where, called_space, queue_object, kept_number}
 use Rattle.g_frames.specs.State.{clone_count}
 use Rattle.g_typed_states.specs.Places.{Among, HaveTypes, node_places, lines_places, control_places, IsSupplied}
-use Rattle.g_typed_states.specs.Lines.{IsAssignable, IsLoopLine, IsCaseLine, IsFrameLine, IsPlaceLine, AllLines, types_outside, types_in_place, LinesInside, LinesOutside, LinesFit, ResultsOutside, GivesFit, HasOneReference, cell_type, IsItemProper, ControlsTyped, ArgumentsFit}
+use Rattle.g_typed_states.specs.Lines.{IsAssignable, IsLoopLine, IsCaseLine, IsFrameLine, IsPlaceLine, IsLastKnown, AllLines, types_outside, types_in_place, LinesInside, LinesOutside, LinesFit, ResultsOutside, GivesFit, HasOneReference, cell_type, IsItemProper, ControlsTyped, ArgumentsFit}
 use Rattle.g_typed_states.specs.Bodies.{IsWorkedOut}
 
 -- ---- nodes, kind by kind
@@ -131,6 +131,7 @@ pub record AcceptsPlace (vi : FlatVi) (e : Entry) (lines : List Tunnel) (body fi
   pub inside : LinesInside vi e.diagram None (e.line + 1) lines
   pub outside : LinesOutside vi (types_in_place vi.types e.diagram body) (e.line + 1) lines
   pub fits : LinesFit vi.types e.diagram body lines
+  pub lasts : AllLines (IsLastKnown vi.types body) lines
   pub one : HasOneReference lines
   pub worked_out : IsWorkedOut vi e lines body finish
 

@@ -128,6 +128,20 @@ LineFits types d b (line.Ref reference inner next same code) = FitsReference typ
 LineFits types d b (line.Element array index inner next outer) = FitsElement types d b array index next
 LineFits types d b (line.Field k cluster inner next outer) = FitsField types d b k cluster next
 
+-- what a line gives outside as it stands inside has a type
+abbrev pub IsLastKnown : Types → (b : ℕ) → Tunnel → Type 0
+IsLastKnown types b (line.Tunnel outer inner) = Unit {0}
+IsLastKnown types b (line.Register initial inner next last) = Unit {0}
+IsLastKnown types b (line.Kept t inner next last) = Unit {0}
+IsLastKnown types b (line.Last inner outer) = (t : Ty) × (wire_type types b inner ≡ Some t)
+IsLastKnown types b (line.Gather inner outer) = Unit {0}
+IsLastKnown types b (line.Index array inner) = Unit {0}
+IsLastKnown types b (line.Result outer default) = Unit {0}
+IsLastKnown types b (line.Carry earlier inner) = Unit {0}
+IsLastKnown types b (line.Ref reference inner next same code) = Unit {0}
+IsLastKnown types b (line.Element array index inner next outer) = Unit {0}
+IsLastKnown types b (line.Field k cluster inner next outer) = Unit {0}
+
 -- ---- which lines a structure has
 
 abbrev pub IsLoopLine : Tunnel → Type 0

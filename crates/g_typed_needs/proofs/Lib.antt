@@ -1,0 +1,5 @@
+mod Starts
+mod Simple
+mod Places
+mod Turns
+mod Firings
