@@ -131,7 +131,7 @@ kind-on r e (Case selector lines arms) =
     let ds : List ℕ = map (λ a. a.body) arms in
     let ls : List Line = border_lines e ds [] case_border (e.line + 1) lines in
     let taken : wires_taken_on Outside (ls ++ map (give_line e) arms) ≡ wires_taken_on Outside ls =
-        taken-append ls (map (give_line e) arms) ∙ ap (λ (ws : List Wire). wires_taken_on Outside ls ++ ws) (gives-take e arms) ∙ nil (wires_taken_on Outside ls) in
+    taken-append ls (map (give_line e) arms) ∙ ap (λ (ws : List Wire). wires_taken_on Outside ls ++ ws) (gives-take e arms) ∙ nil (wires_taken_on Outside ls) in
     ap (λ (ws : List Wire). has_value r selector && all r ws) taken
     ∙ ap (λ (b : Bool). has_value r selector && b) (borders-on r e ds [] case_border case-take (e.line + 1) lines)
 kind-on r e (Sequence parts) = parts-on r e [] parts

@@ -97,7 +97,11 @@ fn has_kind(wires: &Wires<'_>, kind: &Kind<'_>) -> bool
         }
         Kind::Shows { input, .. } | Kind::Write { input, .. } => wires.has(*input),
         Kind::Loop { count, lines, .. } => has_structure(wires, *count, *lines),
-        Kind::Case { selector, lines, .. } => has_structure(wires, Some(*selector), *lines),
+        Kind::Case {
+            selector,
+            lines,
+            ..
+        } => has_structure(wires, Some(*selector), *lines),
         Kind::Sequence { parts } => has_parts(wires, parts.as_slice()),
         Kind::InPlace { lines, .. } => has_borders(wires, *lines),
     }
