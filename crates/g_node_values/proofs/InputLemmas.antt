@@ -2,12 +2,13 @@
 use Rattle.std.proofs.Common.{◌≡◌, ℕ, ◌+◌, Bool, true, false, ◌&&◌, List, [], ◌∷◌, ◌++◌, map, refl, ap, sym, ◌∙◌, append_assoc}
 use Rattle.std.specs.Prelude.{Option, Some, None}
 use Rattle.std.specs.List.{list_all}
+use Rattle.std.proofs.lemmas.List.{append-nil}
 use Rattle.std.proofs.lemmas.List.Folds.{list_all-append}
 use Rattle.g_diagram.specs.declared.node.Tunnel.{Tunnel}
 use Rattle.g_diagram.specs.declared.node.Tunnel.TheVariants as line
 use Rattle.g_diagram.specs.Lines.{Wire, Arm, Part, Entry, Kind, Const, Apply, Shows, Shared, Obtain, Read, Write, Call, Loop, Case, Sequence, InPlace}
-use Rattle.g_diagram.specs.Operands.{Outside, Inside, Operand, Line, source, consumer, free_consumer, border, case_border, border_lines, parts_lines, give_line, call_inputs, in_and_out, loop_header, kind_lines}
-use Rattle.g_border.specs.Readers.{Reader, has_value, wires_taken, wires_taken_on, inputs_of}
+use Rattle.g_diagram.specs.Operands.{Outside, Inside, Operand, Line, source, free_consumer, border, case_border, border_lines, parts_lines, give_line, call_inputs, in_and_out, loop_header, kind_lines}
+use Rattle.g_border.specs.Readers.{Reader, has_value, wires_taken, wires_taken_on}
 use Rattle.g_frames.specs.Fire as fire
 use Rattle.g_node_values.specs.Inputs.{border_has, borders_have, parts_have, structure_has, kind_has}
 
@@ -16,10 +17,6 @@ all r ws = list_all (has_value r) ws
 
 abbrev pub on : Reader → List Line → Bool
 on r ls = all r (wires_taken_on Outside ls)
-
-nil : (ws : List Wire) → ws ++ [] ≡ ws
-nil [] = refl
-nil (w ∷ ws) = ap (λ (vs : List Wire). w ∷ vs) (nil ws)
 
 -- ---- lines one after another
 
@@ -87,41 +84,29 @@ gives-take : (e : Entry) (arms : List Arm) → wires_taken_on Outside (map (give
 gives-take e [] = refl
 gives-take e (arm ∷ arms) = ap (λ (ws : List Wire). ws ++ wires_taken_on Outside (map (give_line e) arms)) (give-take arm.gives) ∙ gives-take e arms
 
+last : (b : Bool) → (b && true) ≡ b
+last true = refl
+last false = refl
+
 header-on : (r : Reader) (count stop : Option Wire) (i : Wire) (ts : List Tunnel)
     → (all r (wires_taken Outside (loop_header count stop i)) && borders_have r ts) ≡ structure_has r count ts
 header-on r None None i ts = refl
 header-on r None (Some s) i ts = refl
-header-on r (Some c) None i ts = one (has_value r c) (borders_have r ts)
-  where
-    one : (a b : Bool) → ((a && true) && b) ≡ (a && b)
-    one true b = refl
-    one false b = refl
-header-on r (Some c) (Some s) i ts = one (has_value r c) (borders_have r ts)
-  where
-    one : (a b : Bool) → ((a && true) && b) ≡ (a && b)
-    one true b = refl
-    one false b = refl
+header-on r (Some c) None i ts = ap (λ (b : Bool). b && borders_have r ts) (last (has_value r c))
+header-on r (Some c) (Some s) i ts = ap (λ (b : Bool). b && borders_have r ts) (last (has_value r c))
 
 -- ---- kinds
 
 pub kind-on : (r : Reader) (e : Entry) (k : Kind) → on r (kind_lines (λ vi j. false) e k) ≡ kind_has r k
 kind-on r e (Const t literal out) = refl
-kind-on r e (Apply op ins outs) = ap (all r) (nil (wires_taken Outside (in_and_out ins outs)) ∙ plain-take ins outs)
+kind-on r e (Apply op ins outs) = ap (all r) (append-nil (wires_taken Outside (in_and_out ins outs)) ∙ plain-take ins outs)
 kind-on r e (Shows name t w) = last (has_value r w)
-  where
-    last : (b : Bool) → (b && true) ≡ b
-    last true = refl
-    last false = refl
-kind-on r e (Shared op ins outs) = ap (all r) (nil (wires_taken Outside (in_and_out ins outs)) ∙ plain-take ins outs)
+kind-on r e (Shared op ins outs) = ap (all r) (append-nil (wires_taken Outside (in_and_out ins outs)) ∙ plain-take ins outs)
 kind-on r e (Obtain queue size item out) = refl
 kind-on r e (Read object out) = refl
 kind-on r e (Write object w) = last (has_value r w)
-  where
-    last : (b : Bool) → (b && true) ≡ b
-    last true = refl
-    last false = refl
 kind-on r e (Call vi ins outs) =
-    ap (all r) (nil (wires_taken Outside (call_inputs (λ j. false) 0 ins ++ map (source Outside) outs)) ∙ call-take (λ j. false) 0 ins outs)
+    ap (all r) (append-nil (wires_taken Outside (call_inputs (λ j. false) 0 ins ++ map (source Outside) outs)) ∙ call-take (λ j. false) 0 ins outs)
 kind-on r e (Loop count stop i lines body) =
     let ls : List Line = border_lines e (body ∷ []) [] border (e.line + 1) lines in
     list_all-append (has_value r) (wires_taken Outside (loop_header count stop i)) (wires_taken_on Outside ls)
@@ -131,7 +116,7 @@ kind-on r e (Case selector lines arms) =
     let ds : List ℕ = map (λ a. a.body) arms in
     let ls : List Line = border_lines e ds [] case_border (e.line + 1) lines in
     let taken : wires_taken_on Outside (ls ++ map (give_line e) arms) ≡ wires_taken_on Outside ls =
-    taken-append ls (map (give_line e) arms) ∙ ap (λ (ws : List Wire). wires_taken_on Outside ls ++ ws) (gives-take e arms) ∙ nil (wires_taken_on Outside ls) in
+    taken-append ls (map (give_line e) arms) ∙ ap (λ (ws : List Wire). wires_taken_on Outside ls ++ ws) (gives-take e arms) ∙ append-nil (wires_taken_on Outside ls) in
     ap (λ (ws : List Wire). has_value r selector && all r ws) taken
     ∙ ap (λ (b : Bool). has_value r selector && b) (borders-on r e ds [] case_border case-take (e.line + 1) lines)
 kind-on r e (Sequence parts) = parts-on r e [] parts

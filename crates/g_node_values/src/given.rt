@@ -16,5 +16,12 @@ pub fn paired(
 ) -> Result<List<(WireSource, Value)>, AllocError>
     ensures { IfOk result (λ given. given ≡ readers.paired places.now values) }
 {
-    Err(AllocError)
+    let mut given = Vec::new(alloc);
+    for value in values.into_vec() {
+        match places.get(given.len()) {
+            Some(place) => given.push((*place, value))?,
+            None => return Ok(List::from_vec(given)),
+        }
+    }
+    Ok(List::from_vec(given))
 }

@@ -5,6 +5,7 @@ mod given;
 mod inputs;
 mod outputs;
 mod panel;
+mod places;
 
 pub use given::paired;
 pub use inputs::has_inputs;
