@@ -1,0 +1,4 @@
+mod InputLemmas
+mod GivenLemmas
+mod OutputLemmas
+mod PanelLemmas
