@@ -1,0 +1,55 @@
+-- What a program's VIs have, and what is gathered of them.
+use Rattle.std.proofs.Common.{◌≡◌, ℕ, zero, suc, ◌+◌, ◌==◌, ◌<◌, ◌≤◌, Bool, true, false, List, [], ◌∷◌, ◌++◌, map, drop, get_or, length, append_assoc, refl, sym, ap, ◌∙◌, subst, arith}
+use Rattle.std.specs.Prelude.{if◌then◌else◌, Option, Some, None, slice_get, is_some}
+use Rattle.std.specs.List.{All, list_any}
+use Rattle.std.specs.Option.{option_map_or}
+use Rattle.std.proofs.lemmas.List.Elements.{All-head, All-tail, All-nil, All-get_or}
+use Rattle.g_values.specs.declared.value.Value.{Value}
+use Rattle.g_values.specs.Proper.{IsProper}
+use Rattle.g_diagram.specs.declared.panel.PanelItem.{PanelItem}
+use Rattle.g_hier.specs.declared.linked.Space.{Space}
+use Rattle.g_frames.specs.declared.state.DiagramSources.{DiagramSources}
+use Rattle.g_frames.specs.Panels.{control_defaults, indicator_defaults}
+use Rattle.g_frames.specs.Program.{FlatVi, Program, vi_at}
+use Rattle.g_frames.specs.State.{all_sources, clone_count, first_panel, first_panels, panel_items, vi_sources}
+use Rattle.g_needs.specs.Starts.{StartNeeds}
+use Rattle.g_start.specs.Panels.{default_panels}
+
+-- what all have is had by the one that stands at a place
+pub all_at : {X : Type 0} (P : X → Type 0) (xs : List X) (i : ℕ) (x : X) → All P xs → i < length xs → x ≡ get_or xs i x → P x
+all_at P xs i x all lt same = subst P (sym same) (All-get_or P xs i x lt all)
+
+-- what all VIs have is had by the panel of each, and by no panel
+pub panel_has : (P : List PanelItem → Type 0) (vis : List FlatVi) (v : ℕ) → P [] → All (λ vi. P vi.panel) vis → P (option_map_or (λ (vi : FlatVi). vi.panel) (slice_get vis v) [])
+panel_has P [] v none all = none
+panel_has P (vi ∷ vis) zero none all = All-head (λ (x : FlatVi). P x.panel) vi vis all
+panel_has P (vi ∷ vis) (suc v) none all = panel_has P vis v none (All-tail (λ (x : FlatVi). P x.panel) vi vis all)
+
+pub proper_controls : (p : Program) (v : ℕ) → StartNeeds p → All IsProper (control_defaults (panel_items p v))
+proper_controls p v needs = panel_has (λ items. All IsProper (control_defaults items)) p.vis v (All-nil IsProper) needs.controls
+
+pub proper_indicators : (p : Program) (v : ℕ) → StartNeeds p → All IsProper (indicator_defaults (panel_items p v))
+proper_indicators p v needs = panel_has (λ items. All IsProper (indicator_defaults items)) p.vis v (All-nil IsProper) needs.indicators
+
+-- a pool has as many clones as are allowed
+pub clones_has : (P : ℕ → Type 0) (vis : List FlatVi) (v : ℕ) → is_some (slice_get vis v) ≡ true → All (λ vi. P (clone_count vi.clones)) vis
+    → P (option_map_or (λ (vi : FlatVi). clone_count vi.clones) (slice_get vis v) 0)
+clones_has P [] v there all = absurd cc
+clones_has P (vi ∷ vis) zero there all = All-head (λ (x : FlatVi). P (clone_count x.clones)) vi vis all
+clones_has P (vi ∷ vis) (suc v) there all = clones_has P vis v there (All-tail (λ (x : FlatVi). P (clone_count x.clones)) vi vis all)
+
+-- only the first panel has its controls set
+pub other_panels : (p : Program) (controls : List Value) (k : ℕ) (ss : List Space) → first_panels p controls (suc k) ss ≡ default_panels p ss
+other_panels p controls k [] = refl
+other_panels p controls k (s ∷ ss) = ap (λ cs. first_panel (control_defaults (panel_items p s.vi)) (panel_items p s.vi) ∷ cs) (other_panels p controls (suc k) ss)
+
+pub sources_next : (p : Program) (n m i : ℕ) (f : FlatVi) (b : Bool) (old new total : List DiagramSources) → m ≡ n + 1 → drop i p.vis ≡ f ∷ drop (i + 1) p.vis
+    → b ≡ list_any (λ s. s.vi == n) p.spaces → new ≡ old ++ (if b then vi_sources n f else []) → old ++ all_sources p n (drop i p.vis) ≡ total
+    → new ++ all_sources p m (drop (i + 1) p.vis) ≡ total
+sources_next p n m i f b old new total e d used more so_far =
+    let rest : List FlatVi = drop (i + 1) p.vis in
+    let here : List DiagramSources = if list_any (λ s. s.vi == n) p.spaces then vi_sources n f else [] in
+    ap (λ xs. xs ++ all_sources p m rest) (more ∙ ap (λ x. old ++ (if x then vi_sources n f else [])) used)
+    ∙ append_assoc old here (all_sources p m rest)
+    ∙ (let s : m ≡ suc n = omega arith in ap (λ k. old ++ (here ++ all_sources p k rest)) s)
+    ∙ ap (λ vis. old ++ all_sources p n vis) (sym d) ∙ so_far
