@@ -1,6 +1,6 @@
 -- What a program's VIs have, and what is gathered of them.
-use Rattle.std.proofs.Common.{◌≡◌, ℕ, zero, suc, ◌+◌, ◌==◌, ◌<◌, ◌≤◌, Bool, true, false, List, [], ◌∷◌, ◌++◌, map, drop, get_or, length, append_assoc, refl, sym, ap, ◌∙◌, subst, arith}
-use Rattle.std.specs.Prelude.{if◌then◌else◌, Option, Some, None, slice_get, is_some}
+use Rattle.std.proofs.Common.{◌≡◌, ℕ, zero, suc, ◌+◌, ◌==◌, ◌<◌, Bool, true, false, List, [], ◌∷◌, ◌++◌, drop, drop-cons, get_or, length, append_assoc, refl, sym, ap, ◌∙◌, subst, arith}
+use Rattle.std.specs.Prelude.{if◌then◌else◌, slice_get, is_some}
 use Rattle.std.specs.List.{All, list_any}
 use Rattle.std.specs.Option.{option_map_or}
 use Rattle.std.proofs.lemmas.List.Elements.{All-head, All-tail, All-nil, All-get_or}
@@ -9,8 +9,9 @@ use Rattle.g_values.specs.Proper.{IsProper}
 use Rattle.g_diagram.specs.declared.panel.PanelItem.{PanelItem}
 use Rattle.g_hier.specs.declared.linked.Space.{Space}
 use Rattle.g_frames.specs.declared.state.DiagramSources.{DiagramSources}
+use Rattle.g_frames.specs.Contents.{Content}
 use Rattle.g_frames.specs.Panels.{control_defaults, indicator_defaults}
-use Rattle.g_frames.specs.Program.{FlatVi, Program, vi_at}
+use Rattle.g_frames.specs.Program.{FlatVi, Program}
 use Rattle.g_frames.specs.State.{all_sources, clone_count, first_panel, first_panels, panel_items, vi_sources}
 use Rattle.g_needs.specs.Starts.{StartNeeds}
 use Rattle.g_start.specs.Panels.{default_panels}
@@ -39,9 +40,23 @@ clones_has P (vi ∷ vis) zero there all = All-head (λ (x : FlatVi). P (clone_c
 clones_has P (vi ∷ vis) (suc v) there all = clones_has P vis v there (All-tail (λ (x : FlatVi). P (clone_count x.clones)) vi vis all)
 
 -- only the first panel has its controls set
+not_first : (k : ℕ) → (suc k == 0) ≡ false
+not_first k = grind arith
+
 pub other_panels : (p : Program) (controls : List Value) (k : ℕ) (ss : List Space) → first_panels p controls (suc k) ss ≡ default_panels p ss
 other_panels p controls k [] = refl
-other_panels p controls k (s ∷ ss) = ap (λ cs. first_panel (control_defaults (panel_items p s.vi)) (panel_items p s.vi) ∷ cs) (other_panels p controls (suc k) ss)
+other_panels p controls k (s ∷ ss) =
+    let items : List PanelItem = panel_items p s.vi in
+    ap (λ b. first_panel (if b then controls else control_defaults items) items ∷ first_panels p controls (suc (suc k)) ss) (not_first k)
+    ∙ ap (λ cs. first_panel (control_defaults items) items ∷ cs) (other_panels p controls (suc k) ss)
+
+pub all_panels : (p : Program) (controls : List Value) (ss : List Space) (d : Space) (items : List PanelItem) (old more new : List Content) → (length ss == 0) ≡ false
+    → items ≡ panel_items p (get_or ss 0 d).vi → more ≡ old ++ first_panel controls items ∷ [] → new ≡ more ++ default_panels p (drop 1 ss) → new ≡ old ++ first_panels p controls 0 ss
+all_panels p controls [] d items old more new some is first rest = absurd cc
+all_panels p controls (x ∷ ss) d items old more new some is first rest =
+    rest ∙ ap (λ cs. cs ++ default_panels p ss) first ∙ append_assoc old (first_panel controls items ∷ []) (default_panels p ss)
+    ∙ ap (λ xs. old ++ (first_panel controls xs ∷ default_panels p ss)) is
+    ∙ ap (λ cs. old ++ (first_panel controls (panel_items p x.vi) ∷ cs)) (sym (other_panels p controls 0 ss))
 
 pub sources_next : (p : Program) (n m i : ℕ) (f : FlatVi) (b : Bool) (old new total : List DiagramSources) → m ≡ n + 1 → drop i p.vis ≡ f ∷ drop (i + 1) p.vis
     → b ≡ list_any (λ s. s.vi == n) p.spaces → new ≡ old ++ (if b then vi_sources n f else []) → old ++ all_sources p n (drop i p.vis) ≡ total
@@ -53,3 +68,7 @@ sources_next p n m i f b old new total e d used more so_far =
     ∙ append_assoc old here (all_sources p m rest)
     ∙ (let s : m ≡ suc n = omega arith in ap (λ k. old ++ (here ++ all_sources p k rest)) s)
     ∙ ap (λ vis. old ++ all_sources p n vis) (sym d) ∙ so_far
+
+-- the rest from an item on
+pub drop_at : {X : Type 0} (xs : List X) (i : ℕ) (d : X) → i < length xs → drop i xs ≡ get_or xs i d ∷ drop (i + 1) xs
+drop_at xs i d lt = drop-cons xs i d lt ∙ (let e : suc i ≡ i + 1 = omega arith in ap (λ n. get_or xs i d ∷ drop n xs) e)
