@@ -1,43 +1,16 @@
 -- What a program's VIs have, and what is gathered of them.
-use Rattle.std.proofs.Common.{◌≡◌, ℕ, zero, suc, ◌+◌, ◌==◌, ◌<◌, Bool, true, false, List, [], ◌∷◌, ◌++◌, drop, drop-cons, get_or, length, append_assoc, refl, sym, ap, ◌∙◌, subst, arith}
-use Rattle.std.specs.Prelude.{if◌then◌else◌, slice_get, is_some}
-use Rattle.std.specs.List.{All, list_any}
-use Rattle.std.specs.Option.{option_map_or}
-use Rattle.std.proofs.lemmas.List.Elements.{All-head, All-tail, All-nil, All-get_or}
+use Rattle.std.proofs.Common.{◌≡◌, ℕ, suc, ◌+◌, ◌==◌, ◌<◌, Bool, false, List, [], ◌∷◌, ◌++◌, drop, drop-cons, get_or, length, append_assoc, refl, sym, ap, ◌∙◌, arith}
+use Rattle.std.specs.Prelude.{if◌then◌else◌}
+use Rattle.std.specs.List.{list_any}
 use Rattle.g_values.specs.declared.value.Value.{Value}
-use Rattle.g_values.specs.Proper.{IsProper}
 use Rattle.g_diagram.specs.declared.panel.PanelItem.{PanelItem}
 use Rattle.g_hier.specs.declared.linked.Space.{Space}
 use Rattle.g_frames.specs.declared.state.DiagramSources.{DiagramSources}
 use Rattle.g_frames.specs.Contents.{Content}
-use Rattle.g_frames.specs.Panels.{control_defaults, indicator_defaults}
+use Rattle.g_frames.specs.Panels.{control_defaults}
 use Rattle.g_frames.specs.Program.{FlatVi, Program}
-use Rattle.g_frames.specs.State.{all_sources, clone_count, first_panel, first_panels, panel_items, vi_sources}
-use Rattle.g_needs.specs.Starts.{StartNeeds}
+use Rattle.g_frames.specs.State.{all_sources, first_panel, first_panels, panel_items, vi_sources}
 use Rattle.g_start.specs.Panels.{default_panels}
-
--- what all have is had by the one that stands at a place
-pub all_at : {X : Type 0} (P : X → Type 0) (xs : List X) (i : ℕ) (x : X) → All P xs → i < length xs → x ≡ get_or xs i x → P x
-all_at P xs i x all lt same = subst P (sym same) (All-get_or P xs i x lt all)
-
--- what all VIs have is had by the panel of each, and by no panel
-pub panel_has : (P : List PanelItem → Type 0) (vis : List FlatVi) (v : ℕ) → P [] → All (λ vi. P vi.panel) vis → P (option_map_or (λ (vi : FlatVi). vi.panel) (slice_get vis v) [])
-panel_has P [] v none all = none
-panel_has P (vi ∷ vis) zero none all = All-head (λ (x : FlatVi). P x.panel) vi vis all
-panel_has P (vi ∷ vis) (suc v) none all = panel_has P vis v none (All-tail (λ (x : FlatVi). P x.panel) vi vis all)
-
-pub proper_controls : (p : Program) (v : ℕ) → StartNeeds p → All IsProper (control_defaults (panel_items p v))
-proper_controls p v needs = panel_has (λ items. All IsProper (control_defaults items)) p.vis v (All-nil IsProper) needs.controls
-
-pub proper_indicators : (p : Program) (v : ℕ) → StartNeeds p → All IsProper (indicator_defaults (panel_items p v))
-proper_indicators p v needs = panel_has (λ items. All IsProper (indicator_defaults items)) p.vis v (All-nil IsProper) needs.indicators
-
--- a pool has as many clones as are allowed
-pub clones_has : (P : ℕ → Type 0) (vis : List FlatVi) (v : ℕ) → is_some (slice_get vis v) ≡ true → All (λ vi. P (clone_count vi.clones)) vis
-    → P (option_map_or (λ (vi : FlatVi). clone_count vi.clones) (slice_get vis v) 0)
-clones_has P [] v there all = absurd cc
-clones_has P (vi ∷ vis) zero there all = All-head (λ (x : FlatVi). P (clone_count x.clones)) vi vis all
-clones_has P (vi ∷ vis) (suc v) there all = clones_has P vis v there (All-tail (λ (x : FlatVi). P (clone_count x.clones)) vi vis all)
 
 -- only the first panel has its controls set
 not_first : (k : ℕ) → (suc k == 0) ≡ false

@@ -31,12 +31,5 @@ pub fn start(
     let objects = first_objects(alloc, tables, controls)?;
     let kept = first_kept(alloc, tables.kept())?;
     let sources = all_sources(alloc, tables)?;
-    Ok(FireState::new(
-        tables.main(),
-        limit,
-        frames,
-        objects,
-        kept,
-        sources,
-    ))
+    Ok(FireState::new(tables.main(), limit, frames, objects, kept, sources))
 }

@@ -29,7 +29,8 @@ pub fn first_objects(
     let mut objects = Vec::new(alloc);
     let queues = tables.queues();
     push_queues(alloc, &mut objects, queues)?;
-    push_cells(alloc, &mut objects, as_number(queues.len())?, tables.cells())?;
+    let first_cell = as_number(queues.len())?;
+    push_cells(alloc, &mut objects, first_cell, tables.cells())?;
     push_panels(alloc, &mut objects, tables, controls)?;
     push_pools(&mut objects, tables, tables.pools())?;
     Ok(objects)
