@@ -1,0 +1,13 @@
+//! What crosses the border of structures: what their lines give inside a frame that opens, and outside once
+//! frames are complete. Values are read by the names of wires, through the look-ups of a VI.
+#![tactic(auto)]
+
+mod cases;
+mod inside;
+mod outside;
+mod places;
+
+pub use cases::{arm_at, results_outside};
+pub use inside::{Entering, Given, iteration_inside, lines_inside};
+pub use outside::{Leaving, kept_values, lines_outside, other_values, parts_outside};
+pub use places::{Reference, other_places, reference_in};
