@@ -6,6 +6,7 @@ mod cases;
 mod inside;
 mod outside;
 mod places;
+mod values;
 
 pub use cases::{arm_at, results_outside};
 pub use inside::{Entering, Given, iteration_inside, lines_inside};
