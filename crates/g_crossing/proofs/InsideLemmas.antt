@@ -1,9 +1,10 @@
 -- What lines give inside, with the values of their kept registers one after another.
 use Rattle.std.proofs.Common.{◌≡◌, ◌+◌, ◌≤◌, ℕ, List, [], ◌∷◌, ◌++◌, map, refl, sym, ap, ◌∙◌}
-use Rattle.std.specs.Prelude.{Option, Some, None}
+use Rattle.std.specs.Prelude.{Option, Some, None, pos}
 use Rattle.std.specs.Option.{option_map, option_map_or}
 use Rattle.g_values.specs.declared.value.Value.{Value}
-use Rattle.g_prims_definitions.specs.Arithmetic.{nothing}
+use Rattle.g_prims_definitions.specs.Arithmetic.{nothing, number}
+use Rattle.g_types.specs.declared.rep.Rep.TheVariants.{I32}
 use Rattle.g_diagram.specs.declared.node.Tunnel.{Tunnel}
 use Rattle.g_diagram.specs.declared.node.Tunnel.TheVariants as line
 use Rattle.g_diagram.specs.Lines.{Wire}
@@ -57,3 +58,12 @@ all_lines first lines c e is l (t ∷ ts) k h =
 
 pub entered_lines : (first : ℕ) (lines : List Tunnel) (c : Held) (e : Entering) → IsEntering first lines c e → inside_from c 0 first lines ≡ lines_inside e first lines
 entered_lines first lines c e is = all_lines first lines c e is first lines 0 (record { at = λ m below. is.kept_is m })
+
+-- the number of an iteration at its operand, and the lines after it
+pub iteration_given : (l k : ℕ) (count stop : Option Wire) (iteration : Wire) (lines : List Tunnel) (c : Held) (e : Entering) → IsEntering (l + 1) lines c e
+    → sources_on Inside 1 (loop_header count stop iteration) ≡ k ∷ []
+    → (record { line = l; operand = k }, number I32 (pos c.iteration)) ∷ inside_from c 0 (l + 1) lines ≡ iteration_inside e l count stop iteration lines
+iteration_given l k count stop iteration lines c e is at =
+    ap (λ (ks : List ℕ). given_at l ks (number I32 (pos c.iteration) ∷ []) ++ inside_from c 0 (l + 1) lines) (sym at)
+    ∙ (ap (λ (i : ℕ). given_at l (sources_on Inside 1 (loop_header count stop iteration)) (number I32 (pos i) ∷ []) ++ inside_from c 0 (l + 1) lines) (sym is.iteration_is)
+    ∙ ap (λ (g : Given). given_at l (sources_on Inside 1 (loop_header count stop iteration)) (number I32 (pos e.iteration) ∷ []) ++ g) (entered_lines (l + 1) lines c e is))

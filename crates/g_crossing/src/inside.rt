@@ -1,11 +1,13 @@
 //! What the lines of a structure give inside, to a frame that opens.
 
-ghost use Rattle.std.specs.Prelude.{◌≡◌, ◌+◌, ◌∷◌, ◌++◌, [], ℕ, IfOk, OnOk};
+ghost use Rattle.std.specs.Prelude.{◌≡◌, ◌+◌, ◌∷◌, ◌++◌, [], ℕ, pos, IfOk, OnOk};
 ghost use Rattle.std.specs.Option.{option_copied, option_map};
 ghost use Rattle.g_border.specs.Lines as border;
 ghost use Rattle.g_border.specs.Loops as loops;
 ghost use Rattle.g_diagram.specs.Operands.{Inside, loop_header};
 ghost use Rattle.g_border.specs.Readers.{sources_on};
+ghost use Rattle.g_types.specs.declared.rep.Rep.TheVariants.{I32};
+ghost use Rattle.g_prims_definitions.specs.Arithmetic.{number};
 ghost use Rattle.g_prims_definitions.specs.Clusters.{or_nothing};
 ghost use Rattle.g_crossing.specs.Crossing.{IsEntering};
 ghost use Rattle.g_crossing.specs.Kept.{entered, inside_from, kept_value, placed};
@@ -145,6 +147,21 @@ fn iteration_operand(count: Option<&Wire>, stop: Option<&Wire>, iteration: &Wire
     }
 }
 
+/// The number of an iteration at an operand of a line.
+fn number_given(
+    alloc: Global,
+    line: u32,
+    operand: u32,
+    iteration: u64,
+) -> Result<Given, AllocError>
+    ensures { IfOk result (λ g. g ≡ (record { line = line; operand = operand }, number I32 (pos iteration)) ∷ []) }
+{
+    let number = Value::Num(Num::wrapped(Rep::I32, i128::from(iteration)));
+    let mut given = List::new(alloc);
+    given.push((WireSource { line, operand }, number))?;
+    Ok(given)
+}
+
 /// What a loop on a line, with these operands and border lines, gives to an iteration. Only want of memory
 /// refuses it, or a line of 2^32 or more.
 pub fn iteration_inside(
@@ -159,9 +176,8 @@ pub fn iteration_inside(
     ensures { IfOk result (λ g. (e : border.Entering) → IsEntering (line + 1) lines.now entering.now e → g ≡ loops.iteration_inside e line (option_map (λ w. w.now) count.entry) (option_map (λ w. w.now) stop.entry) iteration.now lines.now) }
 {
     let operand = iteration_operand(count, stop, iteration);
-    let number = Value::Num(Num::wrapped(Rep::I32, i128::from(entering.iteration)));
-    let mut given = List::new(alloc);
-    given.push((WireSource { line, operand }, number))?;
-    push_lines(alloc, &mut given, entering, next(line)?, lines)?;
+    let mut given = number_given(alloc, line, operand, entering.iteration)?;
+    let first = next(line)?;
+    push_lines(alloc, &mut given, entering, first, lines)?;
     Ok(given)
 }
