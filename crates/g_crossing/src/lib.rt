@@ -3,6 +3,7 @@
 #![tactic(auto)]
 
 mod cases;
+mod gather;
 mod inside;
 mod outside;
 mod places;
