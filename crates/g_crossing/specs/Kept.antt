@@ -73,6 +73,7 @@ abbrev pub kept_from : FlatVi → Leaving → (k line : ℕ) → List Tunnel →
 kept_from vi c k l [] = []
 kept_from vi c k l (t ∷ ts) = kept_on (left vi c (kept_value c.kept.now k)) l t ++ kept_from vi c (next_kept t k) (l + 1) ts
 
-abbrev pub values_from : FlatVi → Leaving → (k line : ℕ) → List Tunnel → List Value
-values_from vi c k l [] = []
-values_from vi c k l (t ∷ ts) = border.values_outside (left vi c (kept_value c.kept.now k)) l t ++ values_from vi c (next_kept t k) (l + 1) ts
+-- without lines, since each register stands on its own
+abbrev pub values_from : FlatVi → Leaving → (k : ℕ) → List Tunnel → List Value
+values_from vi c k [] = []
+values_from vi c k (t ∷ ts) = border.values_outside (left vi c (kept_value c.kept.now k)) 0 t ++ values_from vi c (next_kept t k) ts

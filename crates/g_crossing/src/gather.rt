@@ -67,12 +67,7 @@ fn array_of(alloc: Global, ty: &Ty, inner: &[Wires], wire: &Wire) -> Result<Valu
 {
     match ty {
         Ty::Num(rep) => Ok(Value::Nums(numbers(alloc, *rep, inner, wire)?)),
-        Ty::Bool
-        | Ty::Str
-        | Ty::Arr(_)
-        | Ty::Cluster(_)
-        | Ty::QueueRef(_)
-        | Ty::ValueRef(_) => {
+        Ty::Bool | Ty::Str | Ty::Arr(_) | Ty::Cluster(_) | Ty::QueueRef(_) | Ty::ValueRef(_) => {
             let elem = g_types::copy(alloc, ty)?;
             let items = values(alloc, inner, wire)?;
             Ok(Value::Arr(ArrOf { elem, items }))

@@ -13,8 +13,8 @@ ghost use Rattle.g_crossing.specs.Crossing.{IsEntering};
 ghost use Rattle.g_crossing.specs.Kept.{entered, inside_from, kept_value, placed};
 
 use crate::values::{
-    copied, element_of_iteration, element_on, kept_at, kept_register, next, next_kept, part_on, register,
-    value_in,
+    copied, element_of_iteration, element_on, kept_at, kept_register, next, next_kept, part_on,
+    register, value_in,
 };
 use g_border::WireSource;
 use g_diagram::{Tunnel, Wire};
@@ -148,12 +148,7 @@ fn iteration_operand(count: Option<&Wire>, stop: Option<&Wire>, iteration: &Wire
 }
 
 /// The number of an iteration at an operand of a line.
-fn number_given(
-    alloc: Global,
-    line: u32,
-    operand: u32,
-    iteration: u64,
-) -> Result<Given, AllocError>
+fn number_given(alloc: Global, line: u32, operand: u32, iteration: u64) -> Result<Given, AllocError>
     ensures { IfOk result (λ g. g ≡ (record { line = line; operand = operand }, number I32 (pos iteration)) ∷ []) }
 {
     let number = Value::Num(Num::wrapped(Rep::I32, i128::from(iteration)));

@@ -134,7 +134,7 @@ fn value_outside(
     tunnel: &Tunnel,
 ) -> Result<Option<(u32, Value)>, AllocError>
     ensures given { IfOk result (λ g. (vi : FlatVi) → IsViTable vi leaving.now.table.now → (l : ℕ) → placed l g ≡ border.line_outside (left vi leaving.now (or_nothing (option_copied kept.entry))) l tunnel.now) }
-    ensures values { IfOk result (λ g. (vi : FlatVi) → IsViTable vi leaving.now.table.now → (l : ℕ) → valued g ≡ border.values_outside (left vi leaving.now (or_nothing (option_copied kept.entry))) l tunnel.now) }
+    ensures values { IfOk result (λ g. (vi : FlatVi) → IsViTable vi leaving.now.table.now → valued g ≡ border.values_outside (left vi leaving.now (or_nothing (option_copied kept.entry))) 0 tunnel.now) }
 {
     let inner = leaving.inner;
     match tunnel {
@@ -150,16 +150,19 @@ fn value_outside(
             2,
             last_or_default(alloc, latest(inner), wire, type_inside(leaving, wire))?,
         ))),
-        Tunnel::Gather { inner: wire, .. } => Ok(Some((
-            2,
-            all_values(alloc, leaving, wire)?,
-        ))),
-        Tunnel::Element { array, index, next, .. } => {
-            Ok(Some((5, with_element(alloc, leaving, array, index, next)?)))
-        }
-        Tunnel::Field { field, cluster, next, .. } => {
-            Ok(Some((4, with_part(alloc, leaving, *field, cluster, next)?)))
-        }
+        Tunnel::Gather { inner: wire, .. } => Ok(Some((2, all_values(alloc, leaving, wire)?))),
+        Tunnel::Element {
+            array,
+            index,
+            next,
+            ..
+        } => { Ok(Some((5, with_element(alloc, leaving, array, index, next)?))) }
+        Tunnel::Field {
+            field,
+            cluster,
+            next,
+            ..
+        } => { Ok(Some((4, with_part(alloc, leaving, *field, cluster, next)?))) }
         Tunnel::Tunnel { .. }
         | Tunnel::Index { .. }
         | Tunnel::Result { .. }
@@ -236,7 +239,7 @@ fn push_other(
     register: usize,
     tunnel: &Tunnel,
 ) -> Result<(), AllocError>
-    ensures { OnOk result ((vi : FlatVi) → IsViTable vi leaving.now.table.now → (l : ℕ) → values.new ≡ values.old ++ border.values_outside (left vi leaving.now (kept_value leaving.now.kept.now register)) l tunnel.now) }
+    ensures { OnOk result ((vi : FlatVi) → IsViTable vi leaving.now.table.now → values.new ≡ values.old ++ border.values_outside (left vi leaving.now (kept_value leaving.now.kept.now register)) 0 tunnel.now) }
 {
     let kept = kept_at(leaving.kept, register);
     let value = value_outside(alloc, leaving, kept, tunnel)?;
@@ -250,7 +253,7 @@ fn push_others(
     leaving: &Leaving,
     lines: &[Tunnel],
 ) -> Result<(), AllocError>
-    ensures { OnOk result ((vi : FlatVi) → IsViTable vi leaving.now.table.now → (l : ℕ) → values.new ≡ values.old ++ values_from vi leaving.now 0 l lines.now) }
+    ensures { OnOk result ((vi : FlatVi) → IsViTable vi leaving.now.table.now → values.new ≡ values.old ++ values_from vi leaving.now 0 lines.now) }
 {
     let mut register = 0;
     for tunnel in lines {

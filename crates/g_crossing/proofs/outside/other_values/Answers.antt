@@ -6,6 +6,6 @@ use Rattle.g_crossing.proofs.outside.other_values.Goals as goal
 
 pub returns : goal.returns
 returns c = λ vi e table is.
-    c.in_ok-push_others.ensures vi table c.args.first
-    ∙ (ap (λ (g : List Value). g ++ values_from vi c.args.leaving.now 0 c.args.first c.args.lines.now) c.new-values.ensures
+    c.in_ok-push_others.ensures vi table
+    ∙ (ap (λ (g : List Value). g ++ values_from vi c.args.leaving.now 0 c.args.lines.now) c.new-values.ensures
     ∙ left_values c.args.first c.args.lines.now c.args.leaving.now vi e is)

@@ -14,6 +14,6 @@ returns-in_ok-all_values-in-Gather-clause-given c = λ vi is l.
     ∙ ap (λ (t : Tunnel). line_outside (left vi c.args.leaving.now (or_nothing (option_copied c.args.kept))) l t) (sym c.in-Gather.is)
 
 pub returns-in_ok-all_values-in-Gather-clause-values : goal.returns-in_ok-all_values-in-Gather-clause-values
-returns-in_ok-all_values-in-Gather-clause-values c = λ vi is l.
+returns-in_ok-all_values-in-Gather-clause-values c = λ vi is.
     ap (λ (v : Value). v ∷ []) (c.in_ok-all_values-in-Gather.ensures vi is)
-    ∙ ap (λ (t : Tunnel). values_outside (left vi c.args.leaving.now (or_nothing (option_copied c.args.kept))) l t) (sym c.in-Gather.is)
+    ∙ ap (λ (t : Tunnel). values_outside (left vi c.args.leaving.now (or_nothing (option_copied c.args.kept))) 0 t) (sym c.in-Gather.is)
