@@ -1,6 +1,6 @@
 -- What lines give inside, with the values of their kept registers one after another.
-use Rattle.std.proofs.Common.{◌≡◌, ◌+◌, ◌≤◌, ℕ, List, [], ◌∷◌, ◌++◌, map, refl, sym, ap, ◌∙◌}
-use Rattle.std.specs.Prelude.{Option, Some, None, pos}
+use Rattle.std.proofs.Common.{◌≡◌, ◌+◌, ℕ, List, [], ◌∷◌, ◌++◌, refl, sym, ap, ◌∙◌}
+use Rattle.std.specs.Prelude.{Option, pos}
 use Rattle.std.specs.Option.{option_map, option_map_or}
 use Rattle.g_values.specs.declared.value.Value.{Value}
 use Rattle.g_prims_definitions.specs.Arithmetic.{nothing, number}
@@ -11,9 +11,8 @@ use Rattle.g_diagram.specs.Lines.{Wire}
 use Rattle.g_diagram.specs.Operands.{Inside, border, loop_header}
 use Rattle.g_border.specs.Lines.{Entering, register_value, line_inside, lines_inside}
 use Rattle.g_border.specs.Readers.{Reader, Given, given_on, given_at, sources_on}
-use Rattle.g_border.specs.Loops.{kept_registers, iteration_inside}
+use Rattle.g_border.specs.Loops.{iteration_inside}
 use Rattle.g_wire_values.specs.Wires.{reader}
-use Rattle.g_frames.specs.Structures.{kept_at}
 use Rattle.g_crossing.specs.declared.inside.Entering.{Entering as Held}
 use Rattle.g_crossing.specs.Crossing.{IsEntering}
 use Rattle.g_crossing.specs.Kept.{kept_value, next_kept, entered, inside_from}

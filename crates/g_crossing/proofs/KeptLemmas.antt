@@ -1,14 +1,19 @@
 -- What kept registers had when their loop started, by line and one after another.
 use Rattle.std.proofs.Common.{◌≡◌, ◌+◌, ◌≤◌, ◌<◌, ◌==◌, ℕ, zero, suc, Bool, true, false, List, [], ◌∷◌, ◌++◌, drop, map, refl, sym, ap, ◌∙◌, arith}
-use Rattle.std.specs.Prelude.{Option, Some, None, slice_get, if◌then◌else◌}
+use Rattle.std.specs.Prelude.{Option, if◌then◌else◌}
 use Rattle.std.proofs.lemmas.Bool.Decides.{nat_tests}
 use Rattle.g_types.specs.declared.ty.Ty.{Ty}
 use Rattle.g_values.specs.declared.value.Value.{Value}
 use Rattle.g_prims_definitions.specs.Arithmetic.{nothing}
 use Rattle.g_diagram.specs.declared.node.Tunnel.{Tunnel}
 use Rattle.g_diagram.specs.declared.node.Tunnel.TheVariants as line
-use Rattle.g_border.specs.Loops.{kept_registers}
-use Rattle.g_frames.specs.Structures.{kept_at}
+use Rattle.g_border.specs.Lines as border
+use Rattle.g_border.specs.Loops.{kept_lines, kept_registers}
+use Rattle.g_frames.specs.Effects.{Here}
+use Rattle.g_frames.specs.Operations.{input_at}
+use Rattle.g_frames.specs.Program.{kept_number}
+use Rattle.g_frames.specs.Structures.{kept_after, kept_at}
+use Rattle.g_crossing.specs.Crossing.{kept_on, kept_given, written}
 use Rattle.g_crossing.specs.Kept.{kept_value, next_kept}
 
 -- without values each line has none
@@ -62,3 +67,22 @@ kept_later kept l (line.Carry earlier inner) ts k vs h = record { at = λ m belo
 kept_later kept l (line.Ref reference inner next same code) ts k vs h = record { at = λ m below. h.at m (omega (arith, below)) }
 kept_later kept l (line.Element array index inner next outer) ts k vs h = record { at = λ m below. h.at m (omega (arith, below)) }
 kept_later kept l (line.Field field cluster inner next outer) ts k vs h = record { at = λ m below. h.at m (omega (arith, below)) }
+
+kept_line : (h : Here) (e : border.Leaving) (l : ℕ) (t : Tunnel) → map (λ r. (kept_number h.program h.frame.space r.0, input_at (border.values_outside e l t) 0)) (kept_lines l t) ≡ map (written h) (kept_on e l t)
+kept_line h e l t = map_twice (kept_lines l t)
+  where
+    map_twice : (rs : List (ℕ × Ty)) → map (λ r. (kept_number h.program h.frame.space r.0, input_at (border.values_outside e l t) 0)) rs ≡ map (written h) (map (λ r. (r.0, input_at (border.values_outside e l t) 0)) rs)
+    map_twice [] = refl
+    map_twice (r ∷ rs) = ap (λ ws. (kept_number h.program h.frame.space r.0, input_at (border.values_outside e l t) 0) ∷ ws) (map_twice rs)
+
+map_append : {A B : Type 0} (f : A → B) (xs ys : List A) → map f xs ++ map f ys ≡ map f (xs ++ ys)
+map_append f [] ys = refl
+map_append f (x ∷ xs) ys = ap (λ zs. f x ∷ zs) (map_append f xs ys)
+
+-- what a loop's end writes is what its kept registers have, by their numbers
+pub kept_written : (h : Here) (e : border.Leaving) (l : ℕ) (ts : List Tunnel) → kept_after h e l ts ≡ map (written h) (kept_given e l ts)
+kept_written h e l [] = refl
+kept_written h e l (t ∷ ts) =
+    ap (λ (ws : List (ℕ × Value)). ws ++ kept_after h e (l + 1) ts) (kept_line h e l t)
+    ∙ (ap (λ (ws : List (ℕ × Value)). map (written h) (kept_on e l t) ++ ws) (kept_written h e (l + 1) ts)
+    ∙ map_append (written h) (kept_on e l t) (kept_given e (l + 1) ts))

@@ -1,5 +1,5 @@
 -- What crosses the border of a structure, as the code holds it.
-use Rattle.std.specs.Prelude.{ℕ, ◌≡◌, ◌+◌, List, [], ◌∷◌, ◌++◌, map, Option}
+use Rattle.std.specs.Prelude.{ℕ, ◌≡◌, ◌+◌, List, [], ◌∷◌, ◌++◌, map}
 use Rattle.std.specs.Option.{option_map, option_map_or}
 use Rattle.g_values.specs.declared.value.Value.{Value}
 use Rattle.g_prims_definitions.specs.Arithmetic.{nothing}
@@ -7,8 +7,9 @@ use Rattle.g_diagram.specs.declared.node.Tunnel.{Tunnel}
 use Rattle.g_border.specs.Lines as border
 use Rattle.g_border.specs.Loops.{kept_lines, kept_registers}
 use Rattle.g_wire_values.specs.Wires.{reader}
+use Rattle.g_frames.specs.Effects.{Here}
 use Rattle.g_frames.specs.Operations.{input_at}
-use Rattle.g_frames.specs.Program.{FlatVi}
+use Rattle.g_frames.specs.Program.{FlatVi, kept_number}
 use Rattle.g_frames.specs.Structures.{kept_at}
 use Rattle.g_crossing.specs.declared.inside.Entering.{Entering}
 use Rattle.g_crossing.specs.declared.outside.Leaving.{Leaving}
@@ -40,3 +41,7 @@ kept_given e l (t ∷ ts) = kept_on e l t ++ kept_given e (l + 1) ts
 -- the reference of a structure in place, as the definitions have it
 abbrev pub seen_reference : Reference → border.Reference
 seen_reference r = record { from = r.from.now; next = r.next.now; same = r.same; code = r.code }
+
+-- what a kept register has, by its number among all kept registers
+abbrev pub written : Here → ℕ × Value → ℕ × Value
+written h g = (kept_number h.program h.frame.space g.0, g.1)

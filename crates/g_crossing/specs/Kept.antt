@@ -6,7 +6,6 @@ use Rattle.g_prims_definitions.specs.Arithmetic.{nothing}
 use Rattle.g_prims_definitions.specs.Clusters.{or_nothing}
 use Rattle.g_diagram.specs.declared.node.Tunnel.{Tunnel}
 use Rattle.g_diagram.specs.declared.node.Tunnel.TheVariants as line
-use Rattle.g_border.specs.declared.place.WireSource.{WireSource}
 use Rattle.g_border.specs.Lines as border
 use Rattle.g_border.specs.Readers.{Given}
 use Rattle.g_wire_values.specs.Wires.{reader}

@@ -10,7 +10,7 @@ mod outside;
 mod places;
 mod values;
 
-pub use cases::{arm_at, results_outside};
+pub use cases::{arm_at, chosen, results_outside};
 pub use inside::{Entering, Given, iteration_inside, lines_inside};
 pub use loops::has_ended;
 pub use outside::{Leaving, kept_values, lines_outside, other_values, parts_outside};

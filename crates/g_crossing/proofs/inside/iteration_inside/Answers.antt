@@ -1,4 +1,4 @@
-use Rattle.std.proofs.Common.{◌+◌, ◌∷◌, ◌++◌, ℕ, Bor, ap, ◌∙◌}
+use Rattle.std.proofs.Common.{◌∷◌, ◌++◌, ℕ, Bor, ap, ◌∙◌}
 use Rattle.std.specs.Prelude.{pos}
 use Rattle.g_types.specs.declared.rep.Rep.TheVariants.{I32}
 use Rattle.g_prims_definitions.specs.Arithmetic.{number}

@@ -1,4 +1,4 @@
-use Rattle.std.proofs.Common.{◌≡◌, ◌+◌, ◌++◌, [], ◌∷◌, ℕ, map, refl, sym, ap, ◌∙◌}
+use Rattle.std.proofs.Common.{◌++◌, [], ◌∷◌, ℕ, map, refl, sym, ap, ◌∙◌}
 use Rattle.g_border.specs.Lines.{Leaving, leaving, lines_outside}
 use Rattle.g_border.specs.Loops.{kept_registers}
 use Rattle.g_border.specs.Readers.{Given}
