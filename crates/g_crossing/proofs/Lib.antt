@@ -1,0 +1,4 @@
+pub mod KeptLemmas
+pub mod InsideLemmas
+pub mod OutsideLemmas
+pub mod CountLemmas

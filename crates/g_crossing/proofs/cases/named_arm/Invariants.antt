@@ -1,0 +1,9 @@
+use Rattle.std.proofs.Common.{◌≡◌, map, drop}
+use Rattle.g_border.specs.Cases as spec
+use Rattle.g_diagram_table.specs.Seen.{seen_arm}
+use Rattle.g_rules_cases.specs.Held as held
+use Rattle.g_values.specs.declared.value.Value.{out-Value}
+use Rattle.g_crossing.proofs.cases.named_arm.Given as goal
+
+abbrev pub invariant-loop-arm : goal.invariant-loop-arm
+invariant-loop-arm l = spec.first_arm (held.names_at (out-Value l.value)) (map seen_arm (drop l.arm-index l.arms)) ≡ spec.first_arm (held.names_at (out-Value l.value)) (map seen_arm l.arms)

@@ -1,0 +1,8 @@
+use Rattle.std.proofs.Common.{◌≡◌, drop}
+use Rattle.std.specs.List.{list_any}
+use Rattle.g_rules_cases.specs.Held as held
+use Rattle.g_values.specs.declared.value.Value.{out-Value}
+use Rattle.g_crossing.proofs.cases.some_names.Given as goal
+
+abbrev pub invariant-loop-i : goal.invariant-loop-i
+invariant-loop-i l = list_any (held.names_at (out-Value l.value)) (drop l.i l.selectors) ≡ list_any (held.names_at (out-Value l.value)) l.selectors

@@ -1,0 +1,4 @@
+pub mod Crossing
+pub mod Kept
+pub mod Counts
+pub mod Places
