@@ -1,4 +1,4 @@
--- The types of wires, VI by VI, as they are told.
+-- Inner: the types of wires, VI by VI, as they are told.
 use Rattle.std.specs.Prelude.{ℕ, List, Option, Some, None, slice_get}
 use Rattle.g_typing.specs.Types.{Types}
 use Rattle.g_infer.specs.declared.typed.ViTypes.{ViTypes}
