@@ -6,6 +6,7 @@ ghost use Rattle.std.specs.Option.{option_map};
 ghost use Rattle.g_border.specs.Readers.{value_on};
 ghost use Rattle.g_diagram_table.specs.Seen.{seen};
 ghost use Rattle.g_frames.specs.Effects as effects;
+ghost use Rattle.g_frames.specs.Operations.{input_at};
 ghost use Rattle.g_effects.specs.Requests as spec;
 ghost use Rattle.g_here.specs.Here.{IsHere};
 
@@ -189,6 +190,36 @@ fn makes(here: &Here<'_>, line: u32, value: Value) -> Plan
     done_after(object, Operation::OnCell(RefOp::Make(value)))
 }
 
+/// An operation by the reference that the first input is.
+fn by_inputs(
+    alloc: Global,
+    here: &Here<'_>,
+    entry: &Entry<'_>,
+    operation: SharedOp,
+    inputs: &[Wire],
+) -> Result<Option<Plan>, AllocError>
+    ensures { IfOk result (λ plan. (h : effects.Here) → IsHere here.now h → plan ≡ spec.by_reference (seen entry.now) operation (input_at (map (value_on h.outer) inputs.now) 1) (out-Value (input_at (map (value_on h.outer) inputs.now) 0))) }
+{
+    let wires = here.outer();
+    let first = input(alloc, &wires, inputs, 0)?;
+    let second = input(alloc, &wires, inputs, 1)?;
+    by_reference(alloc, entry, operation, second, &first)
+}
+
+/// A `newref` refers to its input.
+fn by_newref(
+    alloc: Global,
+    here: &Here<'_>,
+    line: u32,
+    inputs: &[Wire],
+) -> Result<Plan, AllocError>
+    ensures { IfOk result (λ plan. (h : effects.Here) → IsHere here.now h → plan ≡ spec.makes h line (input_at (map (value_on h.outer) inputs.now) 0)) }
+{
+    let wires = here.outer();
+    let first = input(alloc, &wires, inputs, 0)?;
+    Ok(makes(here, line, first))
+}
+
 /// What a node asks that does an operation on a queue or on what a reference names. By the null reference
 /// nothing is asked: the node is done with what there is to give. Only want of memory refuses it.
 pub fn shared_plan(
@@ -200,17 +231,12 @@ pub fn shared_plan(
 ) -> Result<Option<Plan>, AllocError>
     ensures { IfOk result (λ plan. (h : effects.Here) → IsHere here.now h → plan ≡ spec.shared_plan h (seen entry.now) operation (map (value_on h.outer) inputs.now)) }
 {
-    let wires = here.outer();
-    let first = input(alloc, &wires, inputs, 0)?;
     match operation {
-        SharedOp::NewRef => Ok(Some(makes(here, entry.line, first))),
-        SharedOp::Enqueue
-        | SharedOp::Dequeue
-        | SharedOp::Release
-        | SharedOp::Size
-        | SharedOp::DelRef => {
-            let second = input(alloc, &wires, inputs, 1)?;
-            by_reference(alloc, entry, operation, second, &first)
-        }
+        SharedOp::NewRef => Ok(Some(by_newref(alloc, here, entry.line, inputs)?)),
+        SharedOp::Enqueue => by_inputs(alloc, here, entry, SharedOp::Enqueue, inputs),
+        SharedOp::Dequeue => by_inputs(alloc, here, entry, SharedOp::Dequeue, inputs),
+        SharedOp::Release => by_inputs(alloc, here, entry, SharedOp::Release, inputs),
+        SharedOp::Size => by_inputs(alloc, here, entry, SharedOp::Size, inputs),
+        SharedOp::DelRef => by_inputs(alloc, here, entry, SharedOp::DelRef, inputs),
     }
 }
