@@ -51,7 +51,12 @@ fn enters(here: &Here<'_>, vi: u32, clone: u64) -> Request
     ensures { (h : effects.Here) → IsHere here.now h → result ≡ spec.enters h vi clone }
 {
     let object = here.tables.pool_object(vi);
-    request(object, Operation::OnPool(PoolOp::Enter), clone, Then::CallEnters)
+    request(
+        object,
+        Operation::OnPool(PoolOp::Enter),
+        clone,
+        Then::CallEnters,
+    )
 }
 
 /// The panel of the data space of the call's clone opens, with the call's arguments.
@@ -69,14 +74,24 @@ fn panel_opens(
     let values = arguments(alloc, &wires, call.inputs, call.panel)?;
     let object = here.tables.panel_object(space);
     let operation = Operation::OnPanel(PanelOp::Enter(ValueList::from_list(values)));
-    Ok(request(object, operation, 0, Then::CallOpens { vi: call.vi, clone, space }))
+    Ok(request(
+        object,
+        operation,
+        0,
+        Then::CallOpens {
+            vi: call.vi,
+            clone,
+            space,
+        },
+    ))
 }
 
 /// The data space of the call's clone, if there is that clone.
 fn space_in(here: &Here<'_>, call: &Called<'_>, clone: u8) -> Option<u32>
     ensures { (h : effects.Here) → IsHere here.now h → result ≡ spec.space_in h call.now.line call.now.vi clone call.now.clones }
 {
-    here.tables.called_space(call.clones, call.vi, here.frame.space, call.line, clone)
+    here.tables
+        .called_space(call.clones, call.vi, here.frame.space, call.line, clone)
 }
 
 fn opens(
@@ -109,7 +124,12 @@ fn returns(here: &Here<'_>, clones: Clones, space: u32) -> Request
     ensures { (h : effects.Here) → IsHere here.now h → result ≡ spec.returns h clones space }
 {
     let object = here.tables.panel_object(space);
-    request(object, Operation::OnPanel(PanelOp::Leave), 0, after_return(clones))
+    request(
+        object,
+        Operation::OnPanel(PanelOp::Leave),
+        0,
+        after_return(clones),
+    )
 }
 
 /// The call gives what the indicators have, once its frame is complete.
@@ -130,7 +150,12 @@ fn leaves(here: &Here<'_>, vi: u32, clone: u8) -> Request
     ensures { (h : effects.Here) → IsHere here.now h → result ≡ spec.leaves h vi clone }
 {
     let object = here.tables.pool_object(vi);
-    request(object, Operation::OnPool(PoolOp::Leave(clone)), 0, Then::CallLeaves)
+    request(
+        object,
+        Operation::OnPool(PoolOp::Leave(clone)),
+        0,
+        Then::CallLeaves,
+    )
 }
 
 /// A call's first firing: a choice stands where it takes a clone of a pool, and there alone.

@@ -38,7 +38,12 @@ pub fn done_with(alloc: Global, entry: &Entry<'_>, values: List<Value>) -> Resul
 }
 
 /// The value of input `k`, from 0, and FALSE where there is none. Only want of memory refuses it.
-pub fn input(alloc: Global, wires: &Wires<'_>, inputs: &[Wire], k: usize) -> Result<Value, AllocError>
+pub fn input(
+    alloc: Global,
+    wires: &Wires<'_>,
+    inputs: &[Wire],
+    k: usize,
+) -> Result<Value, AllocError>
     ensures { IfOk result (λ v. v ≡ input_at (map (value_on (reader wires.now)) inputs.now) k) }
 {
     match inputs.get(k) {

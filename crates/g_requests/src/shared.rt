@@ -40,7 +40,11 @@ fn two(alloc: Global, first: Value, second: Value) -> Result<List<Value>, AllocE
 }
 
 /// What an operation gives by the null reference to a queue.
-fn of_no_queue(alloc: Global, operation: SharedOp, item: &Ty) -> Result<Option<List<Value>>, AllocError>
+fn of_no_queue(
+    alloc: Global,
+    operation: SharedOp,
+    item: &Ty,
+) -> Result<Option<List<Value>>, AllocError>
     ensures { IfOk result (λ vs. vs ≡ spec.of_no_queue operation item.now) }
 {
     match operation {
@@ -55,7 +59,11 @@ fn of_no_queue(alloc: Global, operation: SharedOp, item: &Ty) -> Result<Option<L
 }
 
 /// What an operation gives by the null reference to a value.
-fn of_no_cell(alloc: Global, operation: SharedOp, ty: &Ty) -> Result<Option<List<Value>>, AllocError>
+fn of_no_cell(
+    alloc: Global,
+    operation: SharedOp,
+    ty: &Ty,
+) -> Result<Option<List<Value>>, AllocError>
     ensures { IfOk result (λ vs. vs ≡ spec.of_no_cell operation ty.now) }
 {
     match operation {
@@ -152,11 +160,7 @@ fn by_cell(
 {
     match reference.at {
         Some(live) => Ok(on_live(live, cell_operation(operation, live.serial))),
-        None => done_with_some(
-            alloc,
-            entry,
-            of_no_cell(alloc, operation, &reference.elem)?,
-        ),
+        None => done_with_some(alloc, entry, of_no_cell(alloc, operation, &reference.elem)?),
     }
 }
 
@@ -190,6 +194,18 @@ fn makes(here: &Here<'_>, line: u32, value: Value) -> Plan
     done_after(object, Operation::OnCell(RefOp::Make(value)))
 }
 
+fn by_value(
+    alloc: Global,
+    entry: &Entry<'_>,
+    operation: SharedOp,
+    put: Value,
+    reference: Value,
+) -> Result<Option<Plan>, AllocError>
+    ensures { IfOk result (λ plan. plan ≡ spec.by_reference (seen entry.now) operation put (out-Value reference)) }
+{
+    by_reference(alloc, entry, operation, put, &reference)
+}
+
 /// An operation by the reference that the first input is.
 fn by_inputs(
     alloc: Global,
@@ -203,16 +219,12 @@ fn by_inputs(
     let wires = here.outer();
     let first = input(alloc, &wires, inputs, 0)?;
     let second = input(alloc, &wires, inputs, 1)?;
-    by_reference(alloc, entry, operation, second, &first)
+    let plan = by_value(alloc, entry, operation, second, first)?;
+    Ok(plan)
 }
 
 /// A `newref` refers to its input.
-fn by_newref(
-    alloc: Global,
-    here: &Here<'_>,
-    line: u32,
-    inputs: &[Wire],
-) -> Result<Plan, AllocError>
+fn by_newref(alloc: Global, here: &Here<'_>, line: u32, inputs: &[Wire]) -> Result<Plan, AllocError>
     ensures { IfOk result (λ plan. (h : effects.Here) → IsHere here.now h → plan ≡ spec.makes h line (input_at (map (value_on h.outer) inputs.now) 0)) }
 {
     let wires = here.outer();
