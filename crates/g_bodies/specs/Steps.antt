@@ -12,7 +12,7 @@ use Rattle.g_diagram.specs.Lines as lines
 use Rattle.g_diagram.specs.Lines.{Wire}
 use Rattle.g_diagram_table.specs.Seen.{seen, seen_arm}
 use Rattle.g_typing.specs.Types.{Types}
-use Rattle.g_border.specs.Bodies as body
+use Rattle.g_border.specs.Bodies as bodies
 use Rattle.g_border.specs.Bodies.{Readers, in_diagram, arms_read, results_of}
 use Rattle.g_border.specs.Cases.{chosen}
 use Rattle.g_border.specs.Lines.{entering, lines_inside, leaving, lines_outside}
@@ -40,7 +40,7 @@ gives_of types (work.Outside e tunnels d) r =
 abbrev pub reads_of : Step → List (ℕ × Wire)
 reads_of s = map seen_read s.reads.items
 
-abbrev pub step_of : Types → Step → body.Step
+abbrev pub step_of : Types → Step → bodies.Step
 step_of types s = record { reads = reads_of s; gives = gives_of types s.work }
 
 -- ---- what steps need
@@ -85,16 +85,16 @@ taken_inside (t ∷ ts) = wires_taken Inside (border t) ++ taken_inside ts
 -- ---- the steps of structures
 
 -- the first step of a structure, which reads these wires and those of its border lines
-abbrev pub first_step : lines.Entry → (first : List Wire) → List Tunnel → body.Step
+abbrev pub first_step : lines.Entry → (first : List Wire) → List Tunnel → bodies.Step
 first_step e ws ts = record { reads = in_diagram e.diagram ws ++ in_diagram e.diagram (taken_outside ts); gives = λ r. lines_inside (entering (r e.diagram)) (e.line + 1) ts }
 
-abbrev pub results_step : Types → lines.Entry → (selector : Wire) → List Tunnel → List lines.Arm → body.Step
+abbrev pub results_step : Types → lines.Entry → (selector : Wire) → List Tunnel → List lines.Arm → bodies.Step
 results_step types e selector ts arms = record {
   reads = (e.diagram, selector) ∷ arms_read arms;
   gives = λ r. results_of types (e.line + 1) ts arms r (chosen (value_on (r e.diagram) selector) arms);
 }
 
-abbrev pub outputs_step : Types → lines.Entry → List Tunnel → (body : ℕ) → body.Step
+abbrev pub outputs_step : Types → lines.Entry → List Tunnel → (body : ℕ) → bodies.Step
 outputs_step types e ts d = record {
   reads = in_diagram e.diagram (taken_outside ts) ++ in_diagram d (taken_inside ts);
   gives = λ r. lines_outside (leaving (r e.diagram) (r d ∷ []) (types d)) (e.line + 1) ts;

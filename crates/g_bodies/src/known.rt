@@ -1,6 +1,6 @@
 //! The values that are given so far, by their sources.
 
-ghost use Rattle.std.specs.Prelude.{◌≡◌, ◌∷◌, ℕ, [], map, IfOk, OnOk, if◌then◌else◌, Some, None};
+ghost use Rattle.std.specs.Prelude.{◌≡◌, ◌∷◌, ◌++◌, ℕ, [], map, IfOk, OnOk, if◌then◌else◌, Some, None};
 ghost use Rattle.std.specs.Option.{option_copied, option_map, option_or};
 ghost use Rattle.g_border.specs.Readers.{has_value, value_on, value_given, same_source};
 ghost use Rattle.g_border.specs.declared.place.WireSource.{WireSource as Place};
@@ -111,13 +111,20 @@ pub fn values_on(
     Ok(List::from_vec(values))
 }
 
-fn copy_at(alloc: Global, known: &Known, source: WireSource) -> Result<Option<Value>, AllocError>
-    ensures { IfOk result (λ v. v ≡ found known.now source) }
+/// Adds a copy of the value at a source, where there is one.
+fn push_at(
+    alloc: Global,
+    known: &Known,
+    values: &mut Vec<Option<Value>>,
+    source: &WireSource,
+) -> Result<(), AllocError>
+    ensures { OnOk result (values.new.items ≡ values.old.items ++ found known.now source.now ∷ []) }
 {
-    match known.get(&source) {
-        Some(value) => Ok(Some(copy(alloc, value, &mut Copies { n: 0 })?)),
-        None => Ok(None),
+    match known.get(source) {
+        Some(value) => values.push(Some(copy(alloc, value, &mut Copies { n: 0 })?))?,
+        None => values.push(None)?,
     }
+    Ok(())
 }
 
 /// The values at sources, in their order.
@@ -130,7 +137,7 @@ fn values_at(
 {
     let mut values = Vec::new(alloc);
     for source in sources {
-        values.push(copy_at(alloc, known, *source)?)?;
+        push_at(alloc, known, &mut values, source)?;
     }
     Ok(List::from_vec(values))
 }

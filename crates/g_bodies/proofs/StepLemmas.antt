@@ -1,0 +1,115 @@
+-- The steps of nodes, and what they need.
+use Rattle.std.proofs.Common.{◌≡◌, ℕ, ◌+◌, Bool, true, false, not, ◌&&◌, List, [], ◌∷◌, ◌++◌, map, refl, sym, ap, ◌∙◌, subst}
+use Rattle.std.specs.Prelude.{Option, if◌then◌else◌}
+use Rattle.std.specs.List.{list_all}
+use Rattle.std.proofs.lemmas.List.{append-nil}
+use denote.Ref.{Bor}
+use Rattle.g_values.specs.declared.primitive.Primitive.{Primitive}
+use Rattle.g_diagram.specs.declared.node.Tunnel.{Tunnel}
+use Rattle.g_diagram.specs.declared.node.Tunnel.TheVariants as line
+use Rattle.g_diagram.specs.Lines as lines
+use Rattle.g_diagram.specs.Lines.{Wire, Arm}
+use Rattle.g_diagram.specs.Operands.{Side, Operand, Line, Inside, Outside, border, case_border, border_lines, give_line, free_consumer}
+use Rattle.g_border.specs.Bodies.{Readers, in_diagram, kind_steps}
+use Rattle.g_border.specs.Readers.{has_value, wires_taken, wires_taken_on}
+use Rattle.g_typing.specs.Types.{Types}
+use Rattle.g_bodies.specs.declared.steps.Step.{Step}
+use Rattle.g_bodies.specs.Steps.{seen_read, reads_of, taken_outside, taken_inside, first_step, results_step, outputs_step, StepFits, AllFit, InputsFit, WorkFits}
+
+-- ---- one more step
+
+all_push : (r : ℕ → Readers) (ss : List Step) (s : Step) → StepFits r s → AllFit r ss → AllFit r (ss ++ s ∷ [])
+all_push r [] s f all = (f, tt)
+all_push r (t ∷ ts) s f all = (all.0, all_push r ts s f all.1)
+
+pub pushed : (r : ℕ → Readers) (old new : List Step) (s : Step) → new ≡ old ++ s ∷ [] → StepFits r s → AllFit r old → AllFit r new
+pushed r old new s e f all = subst (AllFit r) (sym e) (all_push r old s f all)
+
+all_in : (r : Readers) (d : ℕ) (ws : List Wire) → list_all (λ w. has_value (r w.0) w.1) (in_diagram d ws) ≡ list_all (has_value (r d)) ws
+all_in r d [] = refl
+all_in r d (w ∷ ws) = ap (λ b. has_value (r d) w && b) (all_in r d ws)
+
+-- a primitive, where it has what it needs once its inputs have values
+pub apply_fits : (r : ℕ → Readers) (d : ℕ) (op : Primitive) (inputs : List Wire) (s : Step) → reads_of s ≡ in_diagram d inputs → InputsFit r d op inputs
+    → (n : ℕ) → list_all (λ w. has_value (r n w.0) w.1) (reads_of s) ≡ true → list_all (has_value (r n d)) inputs ≡ true
+apply_fits r d op inputs s e f n h = sym (all_in (r n) d inputs) ∙ ap (list_all (λ w. has_value (r n w.0) w.1)) (sym e) ∙ h
+
+-- ---- the wires of structures
+
+taken_both : (side : Side) (xs ys : List Line) → wires_taken_on side (xs ++ ys) ≡ wires_taken_on side xs ++ wires_taken_on side ys
+taken_both side [] ys = refl
+taken_both side (x ∷ xs) ys =
+    ap (λ ws. wires_taken side x.operands ++ ws) (taken_both side xs ys) ∙ assoc (wires_taken side x.operands) (wires_taken_on side xs) (wires_taken_on side ys)
+  where
+    assoc : (us vs ws : List Wire) → us ++ (vs ++ ws) ≡ (us ++ vs) ++ ws
+    assoc [] vs ws = refl
+    assoc (u ∷ us) vs ws = ap (λ xs. u ∷ xs) (assoc us vs ws)
+
+none_given : (ws : List Wire) → wires_taken Outside (map (free_consumer Inside) ws) ≡ []
+none_given [] = refl
+none_given (w ∷ ws) = none_given ws
+
+gives_nothing : (e : lines.Entry) (arms : List Arm) → wires_taken_on Outside (map (give_line e) arms) ≡ []
+gives_nothing e [] = refl
+gives_nothing e (arm ∷ arms) = ap (λ ws. ws ++ wires_taken_on Outside (map (give_line e) arms)) (none_given arm.gives) ∙ gives_nothing e arms
+
+case_taken : (t : Tunnel) → wires_taken Outside (case_border t) ≡ wires_taken Outside (border t)
+case_taken (line.Tunnel outer inner) = refl
+case_taken (line.Register initial inner next last) = refl
+case_taken (line.Kept t inner next last) = refl
+case_taken (line.Last inner outer) = refl
+case_taken (line.Gather inner outer) = refl
+case_taken (line.Index array inner) = refl
+case_taken (line.Result outer default) = refl
+case_taken (line.Carry before inner) = refl
+case_taken (line.Ref reference inner next same code) = refl
+case_taken (line.Element array index inner next outer) = refl
+case_taken (line.Field field cluster inner next outer) = refl
+
+case_outside : (e : lines.Entry) (ins bef : List ℕ) (l : ℕ) (ts : List Tunnel) → wires_taken_on Outside (border_lines e ins bef case_border l ts) ≡ taken_outside ts
+case_outside e ins bef l [] = refl
+case_outside e ins bef l (t ∷ ts) =
+    ap (λ ws. ws ++ wires_taken_on Outside (border_lines e ins bef case_border (l + 1) ts)) (case_taken t)
+    ∙ ap (λ ws. wires_taken Outside (border t) ++ ws) (case_outside e ins bef (l + 1) ts)
+
+place_outside : (e : lines.Entry) (ins bef : List ℕ) (l : ℕ) (ts : List Tunnel) → wires_taken_on Outside (border_lines e ins bef border l ts) ≡ taken_outside ts
+place_outside e ins bef l [] = refl
+place_outside e ins bef l (t ∷ ts) = ap (λ ws. wires_taken Outside (border t) ++ ws) (place_outside e ins bef (l + 1) ts)
+
+place_inside : (e : lines.Entry) (ins bef : List ℕ) (l : ℕ) (ts : List Tunnel) → wires_taken_on Inside (border_lines e ins bef border l ts) ≡ taken_inside ts
+place_inside e ins bef l [] = refl
+place_inside e ins bef l (t ∷ ts) = ap (λ ws. wires_taken Inside (border t) ++ ws) (place_inside e ins bef (l + 1) ts)
+
+-- the steps of a case
+pub case_steps : (types : Types) (line d : ℕ) (selector : Wire) (ts : List Tunnel) (arms : List Arm)
+    → let k = lines.Case selector ts arms in let e = lines.entry line d k in
+    first_step e (selector ∷ []) ts ∷ results_step types e selector ts arms ∷ [] ≡ kind_steps types e k
+case_steps types line d selector ts arms =
+    let e : lines.Entry = lines.entry line d (lines.Case selector ts arms) in
+    let ds : List ℕ = map (λ a. a.body) arms in
+    let taken : wires_taken_on Outside (border_lines e ds [] case_border (line + 1) ts ++ map (give_line e) arms) ≡ taken_outside ts =
+    taken_both Outside (border_lines e ds [] case_border (line + 1) ts) (map (give_line e) arms)
+    ∙ ap (λ ws. wires_taken_on Outside (border_lines e ds [] case_border (line + 1) ts) ++ ws) (gives_nothing e arms)
+    ∙ append-nil (wires_taken_on Outside (border_lines e ds [] case_border (line + 1) ts))
+    ∙ case_outside e ds [] (line + 1) ts in
+    ap (λ ws. record (first_step e (selector ∷ []) ts) { reads = (d, selector) ∷ in_diagram d ws } ∷ results_step types e selector ts arms ∷ []) (sym taken)
+
+-- those of a structure in place
+pub place_steps : (types : Types) (line d : ℕ) (ts : List Tunnel) (body finish : ℕ)
+    → let k = lines.InPlace ts body finish in let e = lines.entry line d k in
+    first_step e [] ts ∷ outputs_step types e ts body ∷ [] ≡ kind_steps types e k
+place_steps types line d ts body finish =
+    let e : lines.Entry = lines.entry line d (lines.InPlace ts body finish) in
+    let ls : List Line = border_lines e (body ∷ []) [] border (line + 1) ts in
+    ap (λ ws. record (first_step e [] ts) { reads = in_diagram d ws } ∷ outputs_step types e ts body ∷ []) (sym (place_outside e (body ∷ []) [] (line + 1) ts))
+    ∙ ap (λ ws. record (first_step e [] ts) { reads = in_diagram d (wires_taken_on Outside ls) } ∷ record (outputs_step types e ts body) { reads = in_diagram d ws ++ in_diagram body (taken_inside ts) } ∷ [])
+    (sym (place_outside e (body ∷ []) [] (line + 1) ts))
+    ∙ ap (λ ws. record (first_step e [] ts) { reads = in_diagram d (wires_taken_on Outside ls) } ∷ record (outputs_step types e ts body) { reads = in_diagram d (wires_taken_on Outside ls) ++ in_diagram body ws } ∷ [])
+    (sym (place_inside e (body ∷ []) [] (line + 1) ts))
+
+assoc_steps : {A : Type 0} (old : List A) (x y : A) (new : List A) → x ∷ y ∷ [] ≡ new → (old ++ x ∷ []) ++ y ∷ [] ≡ old ++ new
+assoc_steps [] x y new e = e
+assoc_steps (z ∷ zs) x y new e = ap (λ ss. z ∷ ss) (assoc_steps zs x y new e)
+
+pub two_steps : {A : Type 0} (old mid all : List A) (x y : A) (new : List A) → mid ≡ old ++ x ∷ [] → all ≡ mid ++ y ∷ [] → x ∷ y ∷ [] ≡ new → all ≡ old ++ new
+two_steps old mid all x y new e f g = f ∙ ap (λ ss. ss ++ y ∷ []) e ∙ assoc_steps old x y new g
