@@ -9,9 +9,10 @@ use Rattle.g_diagram.specs.declared.node.Tunnel.{Tunnel}
 use Rattle.g_diagram.specs.declared.node.Tunnel.TheVariants as line
 use Rattle.g_diagram.specs.Lines as lines
 use Rattle.g_diagram.specs.Lines.{Wire, Arm}
-use Rattle.g_diagram.specs.Operands.{Side, Operand, Line, Inside, Outside, border, case_border, border_lines, give_line, free_consumer}
+use Rattle.g_diagram.specs.Operands.{Side, Operand, Line, Inside, Outside, border, case_border, border_lines, kind_lines, give_line, free_consumer}
+use Rattle.g_border.specs.Bodies as bodies
 use Rattle.g_border.specs.Bodies.{Readers, in_diagram, kind_steps}
-use Rattle.g_border.specs.Readers.{has_value, wires_taken, wires_taken_on}
+use Rattle.g_border.specs.Readers.{has_value, inputs_of, node_lines, wires_taken, wires_taken_on}
 use Rattle.g_typing.specs.Types.{Types}
 use Rattle.g_bodies.specs.declared.steps.Step.{Step}
 use Rattle.g_bodies.specs.Steps.{seen_read, reads_of, taken_outside, taken_inside, first_step, results_step, outputs_step, StepFits, AllFit, InputsFit, WorkFits}
@@ -30,9 +31,9 @@ all_in r d [] = refl
 all_in r d (w ∷ ws) = ap (λ b. has_value (r d) w && b) (all_in r d ws)
 
 -- a primitive, where it has what it needs once its inputs have values
-pub apply_fits : (r : ℕ → Readers) (d : ℕ) (op : Primitive) (inputs : List Wire) (s : Step) → reads_of s ≡ in_diagram d inputs → InputsFit r d op inputs
-    → (n : ℕ) → list_all (λ w. has_value (r n w.0) w.1) (reads_of s) ≡ true → list_all (has_value (r n d)) inputs ≡ true
-apply_fits r d op inputs s e f n h = sym (all_in (r n) d inputs) ∙ ap (list_all (λ w. has_value (r n w.0) w.1)) (sym e) ∙ h
+pub apply_fits : (r : ℕ → Readers) (d : ℕ) (inputs : List Wire) (rs : List (ℕ × Wire)) → rs ≡ in_diagram d inputs
+    → (n : ℕ) → list_all (λ w. has_value (r n w.0) w.1) rs ≡ true → list_all (has_value (r n d)) inputs ≡ true
+apply_fits r d inputs rs e n h = sym (all_in (r n) d inputs) ∙ ap (list_all (λ w. has_value (r n w.0) w.1)) (sym e) ∙ h
 
 -- ---- the wires of structures
 
@@ -81,31 +82,31 @@ place_inside e ins bef l [] = refl
 place_inside e ins bef l (t ∷ ts) = ap (λ ws. wires_taken Inside (border t) ++ ws) (place_inside e ins bef (l + 1) ts)
 
 -- the steps of a case
-pub case_steps : (types : Types) (line d : ℕ) (selector : Wire) (ts : List Tunnel) (arms : List Arm)
-    → let k = lines.Case selector ts arms in let e = lines.entry line d k in
-    first_step e (selector ∷ []) ts ∷ results_step types e selector ts arms ∷ [] ≡ kind_steps types e k
-case_steps types line d selector ts arms =
-    let e : lines.Entry = lines.entry line d (lines.Case selector ts arms) in
+pub case_steps : (types : Types) (e : lines.Entry) (selector : Wire) (ts : List Tunnel) (arms : List Arm) → e.kind ≡ lines.Case selector ts arms
+    → first_step e (selector ∷ []) ts ∷ results_step types e selector ts arms ∷ [] ≡ kind_steps types e (lines.Case selector ts arms)
+case_steps types e selector ts arms h =
     let ds : List ℕ = map (λ a. a.body) arms in
-    let taken : wires_taken_on Outside (border_lines e ds [] case_border (line + 1) ts ++ map (give_line e) arms) ≡ taken_outside ts =
-    taken_both Outside (border_lines e ds [] case_border (line + 1) ts) (map (give_line e) arms)
-    ∙ ap (λ ws. wires_taken_on Outside (border_lines e ds [] case_border (line + 1) ts) ++ ws) (gives_nothing e arms)
-    ∙ append-nil (wires_taken_on Outside (border_lines e ds [] case_border (line + 1) ts))
-    ∙ case_outside e ds [] (line + 1) ts in
-    ap (λ ws. record (first_step e (selector ∷ []) ts) { reads = (d, selector) ∷ in_diagram d ws } ∷ results_step types e selector ts arms ∷ []) (sym taken)
+    let ls : List Line = border_lines e ds [] case_border (e.line + 1) ts in
+    let lines_taken : wires_taken_on Outside (ls ++ map (give_line e) arms) ≡ taken_outside ts =
+    taken_both Outside ls (map (give_line e) arms) ∙ ap (λ ws. wires_taken_on Outside ls ++ ws) (gives_nothing e arms)
+    ∙ append-nil (wires_taken_on Outside ls) ∙ case_outside e ds [] (e.line + 1) ts in
+    let taken : inputs_of e ≡ selector ∷ taken_outside ts =
+    ap (λ k. wires_taken_on Outside (kind_lines (λ vi n. false) e k)) h ∙ ap (λ ws. selector ∷ ws) lines_taken in
+    ap (λ ws. record (first_step e (selector ∷ []) ts) { reads = in_diagram e.diagram ws } ∷ results_step types e selector ts arms ∷ []) (sym taken)
 
 -- those of a structure in place
-pub place_steps : (types : Types) (line d : ℕ) (ts : List Tunnel) (body finish : ℕ)
-    → let k = lines.InPlace ts body finish in let e = lines.entry line d k in
-    first_step e [] ts ∷ outputs_step types e ts body ∷ [] ≡ kind_steps types e k
-place_steps types line d ts body finish =
-    let e : lines.Entry = lines.entry line d (lines.InPlace ts body finish) in
-    let ls : List Line = border_lines e (body ∷ []) [] border (line + 1) ts in
-    ap (λ ws. record (first_step e [] ts) { reads = in_diagram d ws } ∷ outputs_step types e ts body ∷ []) (sym (place_outside e (body ∷ []) [] (line + 1) ts))
-    ∙ ap (λ ws. record (first_step e [] ts) { reads = in_diagram d (wires_taken_on Outside ls) } ∷ record (outputs_step types e ts body) { reads = in_diagram d ws ++ in_diagram body (taken_inside ts) } ∷ [])
-    (sym (place_outside e (body ∷ []) [] (line + 1) ts))
-    ∙ ap (λ ws. record (first_step e [] ts) { reads = in_diagram d (wires_taken_on Outside ls) } ∷ record (outputs_step types e ts body) { reads = in_diagram d (wires_taken_on Outside ls) ++ in_diagram body ws } ∷ [])
-    (sym (place_inside e (body ∷ []) [] (line + 1) ts))
+pub place_steps : (types : Types) (e : lines.Entry) (ts : List Tunnel) (body finish : ℕ) → e.kind ≡ lines.InPlace ts body finish
+    → first_step e [] ts ∷ outputs_step types e ts body ∷ [] ≡ kind_steps types e (lines.InPlace ts body finish)
+place_steps types e ts body finish h =
+    let ls : List Line = border_lines e (body ∷ []) [] border (e.line + 1) ts in
+    let these : node_lines e ≡ ls = ap (λ k. kind_lines (λ vi n. false) e k) h in
+    let out : taken_outside ts ≡ wires_taken_on Outside (node_lines e) =
+    sym (ap (wires_taken_on Outside) these ∙ place_outside e (body ∷ []) [] (e.line + 1) ts) in
+    let inner : taken_inside ts ≡ wires_taken_on Inside (node_lines e) =
+    sym (ap (wires_taken_on Inside) these ∙ place_inside e (body ∷ []) [] (e.line + 1) ts) in
+    let both : List Wire → List Wire → List bodies.Step = λ us vs.
+    record (first_step e [] ts) { reads = in_diagram e.diagram us } ∷ record (outputs_step types e ts body) { reads = in_diagram e.diagram us ++ in_diagram body vs } ∷ [] in
+    ap (λ us. both us (taken_inside ts)) out ∙ ap (λ vs. both (wires_taken_on Outside (node_lines e)) vs) inner
 
 assoc_steps : {A : Type 0} (old : List A) (x y : A) (new : List A) → x ∷ y ∷ [] ≡ new → (old ++ x ∷ []) ++ y ∷ [] ≡ old ++ new
 assoc_steps [] x y new e = e

@@ -1,17 +1,16 @@
 //! The turns of a body.
 
-ghost use Rattle.std.specs.Prelude.{◌≡◌, ◌<◌, ℕ, suc, length, map, List as TheList, IfOk, OnOk, OnSome};
+ghost use Rattle.std.specs.Prelude.{◌≡◌, ◌<◌, ℕ, suc, length, map, List as TheList, IfOk, IfSome, OnOk};
 ghost use Rattle.std.specs.List.{list_all};
 ghost use Rattle.g_border.specs.Bodies.{body_reader, is_known};
 ghost use Rattle.g_border.specs.Readers.{has_value, value_given};
 ghost use Rattle.g_border.specs.declared.place.WireSource.{WireSource as Place};
 ghost use Rattle.g_frames.specs.Program.{FlatVi};
 ghost use Rattle.g_needs.specs.Bodies.{BodyNeeds};
-ghost use Rattle.g_vi_tables.specs.Places.{first_place};
 ghost use Rattle.g_vi_tables.specs.Tables.{IsViTable, reader_at};
 ghost use Rattle.g_bodies.specs.Known.{found, known_in};
 ghost use Rattle.g_bodies.specs.Steps.{reads_of, step_of};
-ghost use Rattle.g_bodies.specs.Turns.{after, StepsFit};
+ghost use Rattle.g_bodies.specs.Turns.{after, first_from, StepsFit};
 
 use crate::known::{Given, Known, give, has, values_in};
 use crate::steps::{Step, steps_of};
@@ -27,8 +26,8 @@ use std::collections::BTreeMap;
 fn is_known(table: &ViTable<'_>, known: &Known, step: &Step<'_, '_>) -> bool
     ensures { (vi : FlatVi) → IsViTable vi table.now → result ≡ is_known (known_in vi known.now) (step_of vi.types step.now) }
 {
-    for (diagram, wire) in step.reads.as_slice() {
-        if !has(table, known, *diagram, *wire) {
+    for read in step.reads.as_slice() {
+        if !has(table, known, read.0, read.1) {
             return false;
         }
     }
@@ -37,8 +36,8 @@ fn is_known(table: &ViTable<'_>, known: &Known, step: &Step<'_, '_>) -> bool
 
 /// The place of the first step whose wires all have values.
 fn first_known(table: &ViTable<'_>, known: &Known, steps: &[Step<'_, '_>]) -> Option<usize>
-    ensures within { OnSome result (λ at. at < length steps.now) }
-    ensures place { (vi : FlatVi) → IsViTable vi table.now → result ≡ first_place (λ s. is_known (known_in vi known.now) (step_of vi.types s)) steps.now }
+    ensures within { IfSome result (λ at. at < length steps.now) }
+    ensures place { (vi : FlatVi) → IsViTable vi table.now → result ≡ first_from 0 (λ s. is_known (known_in vi known.now) (step_of vi.types s)) steps.now }
 {
     for at in 0..steps.len() {
         if is_known(table, known, &steps[at]) {

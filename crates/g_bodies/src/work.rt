@@ -14,6 +14,7 @@ ghost use Rattle.g_frames.specs.Program.{FlatVi};
 ghost use Rattle.g_literals.specs.Values as literals;
 ghost use Rattle.g_prims_definitions.specs.Values.{outputs_of};
 ghost use Rattle.g_vi_tables.specs.Tables.{IsViTable};
+ghost use Rattle.g_wire_values.specs.Wires.{reader};
 ghost use Rattle.g_bodies.specs.Known.{known_in};
 ghost use Rattle.g_bodies.specs.Steps.{gives_of, WorkFits};
 
@@ -29,6 +30,7 @@ use g_prims::apply;
 use g_types::Ty;
 use g_values::{Primitive, Value, ValueList};
 use g_vi_tables::ViTable;
+use g_wire_values::Wires;
 use std::alloc::{AllocError, Global};
 
 /// The line after one. One of 2^32 or more, which no listing has, is told as want of memory.
@@ -74,7 +76,25 @@ fn applied(
     outputs_given(alloc, entry, outs.into_list())
 }
 
-/// What the lines of a structure give inside, where it has no reference.
+/// What the lines of a structure, from one on, give inside, where it has no reference.
+fn inside_from(
+    alloc: Global,
+    outer: Wires<'_>,
+    first: u32,
+    lines: &[Tunnel],
+) -> Result<Given, AllocError>
+    ensures { IfOk result (λ g. g ≡ border.lines_inside (entering (reader outer.entry)) first lines.now) }
+{
+    let entering = Entering {
+        outer,
+        before: None,
+        iteration: 0,
+        kept: &[],
+        referred: None,
+    };
+    lines_inside(alloc, &entering, first, lines)
+}
+
 fn inside(
     alloc: Global,
     table: &ViTable<'_>,
@@ -84,15 +104,10 @@ fn inside(
 ) -> Result<Given, AllocError>
     ensures { IfOk result (λ g. (vi : FlatVi) → IsViTable vi table.now → g ≡ border.lines_inside (entering (known_in vi known.now entry.now.diagram)) (entry.now.line + 1) lines.now) }
 {
+    let first = next(entry.line)?;
     let outer = values_in(alloc, table, known, entry.diagram)?;
-    let entering = Entering {
-        outer: table.wires(entry.diagram, outer.as_slice()),
-        before: None,
-        iteration: 0,
-        kept: &[],
-        referred: None,
-    };
-    lines_inside(alloc, &entering, next(entry.line)?, lines)
+    let wires = table.wires(entry.diagram, outer.as_slice());
+    inside_from(alloc, wires, first, lines)
 }
 
 /// What the branch that a case takes gives.
@@ -131,7 +146,28 @@ fn results(
     }
 }
 
-/// What the lines of a structure in place give outside, where it has no reference.
+/// What the lines of a structure in place, from one on, give outside, where it has no reference.
+fn outside_from(
+    alloc: Global,
+    table: &ViTable<'_>,
+    outer: Wires<'_>,
+    inner: &[Wires<'_>],
+    body: u32,
+    first: u32,
+    lines: &[Tunnel],
+) -> Result<Given, AllocError>
+    ensures { IfOk result (λ g. (vi : FlatVi) → IsViTable vi table.now → g ≡ border.lines_outside (leaving (reader outer.entry) (map reader inner.now) (vi.types body)) first lines.now) }
+{
+    let leaving = Leaving {
+        outer,
+        inner,
+        kept: &[],
+        table: &*table,
+        body,
+    };
+    lines_outside(alloc, &leaving, first, lines)
+}
+
 fn outside(
     alloc: Global,
     table: &ViTable<'_>,
@@ -142,17 +178,12 @@ fn outside(
 ) -> Result<Given, AllocError>
     ensures { IfOk result (λ g. (vi : FlatVi) → IsViTable vi table.now → g ≡ border.lines_outside (leaving (known_in vi known.now entry.now.diagram) (known_in vi known.now body ∷ []) (vi.types body)) (entry.now.line + 1) lines.now) }
 {
+    let first = next(entry.line)?;
     let outer = values_in(alloc, table, known, entry.diagram)?;
     let inner = values_in(alloc, table, known, body)?;
-    let frames = [table.wires(body, inner.as_slice())];
-    let leaving = Leaving {
-        outer: table.wires(entry.diagram, outer.as_slice()),
-        inner: &frames,
-        kept: &[],
-        table,
-        body,
-    };
-    lines_outside(alloc, &leaving, next(entry.line)?, lines)
+    let wires = table.wires(entry.diagram, outer.as_slice());
+    let frame = table.wires(body, inner.as_slice());
+    outside_from(alloc, &*table, wires, &[frame], body, first, &*lines)
 }
 
 /// What a step gives. Only want of memory refuses it, as which a line of 2^32 or more is told too.
