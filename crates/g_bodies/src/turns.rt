@@ -73,8 +73,8 @@ fn take_turns(
     steps: Vec<Step<'_, '_>>,
     known: &mut Known,
 ) -> Result<(), AllocError>
-    requires { (vi : FlatVi) × (IsViTable vi table.now × StepsFit vi steps.entry.items (found known.old)) }
-    ensures { OnOk result ((vi : FlatVi) → IsViTable vi table.now → found known.new ≡ after vi steps.entry.items (found known.old) (length steps.entry.items)) }
+    requires { (vi : FlatVi) × (IsViTable vi table.now × StepsFit vi steps.items (found known.old)) }
+    ensures { OnOk result ((vi : FlatVi) → IsViTable vi table.now → found known.new ≡ after vi steps.items (found known.old) (length steps.items)) }
 {
     let mut steps = steps;
     for _ in 0..steps.len() {

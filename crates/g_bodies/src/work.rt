@@ -1,7 +1,6 @@
 //! What steps give.
 
 ghost use Rattle.std.specs.Prelude.{◌≡◌, ◌+◌, ◌∷◌, [], map, IfOk};
-ghost use Rattle.std.specs.Option.{option_map};
 ghost use Rattle.g_border.specs.Bodies.{results_of};
 ghost use Rattle.g_border.specs.Cases as cases;
 ghost use Rattle.g_border.specs.Lines.{entering, leaving};
@@ -20,7 +19,7 @@ ghost use Rattle.g_bodies.specs.Steps.{gives_of, WorkFits};
 
 use crate::known::{Given, Known, value, values_in, values_on};
 use crate::steps::Work;
-use g_crossing::{Entering, Leaving, lines_inside, lines_outside, results_outside};
+use g_crossing::{Entering, Leaving, chosen, lines_inside, lines_outside, results_outside};
 use g_diagram::{Lit, Tunnel, Wire};
 use g_diagram_table::{Arm, Entry};
 use g_lists::List;
@@ -38,13 +37,6 @@ fn next(line: u32) -> Result<u32, AllocError>
     ensures { IfOk result (λ n. n ≡ line + 1) }
 {
     line.checked_add(1).ok_or(AllocError)
-}
-
-// STAND-IN until g_crossing has it
-fn chosen<'t, 'm>(value: &Value, arms: &'t [Arm<'m>]) -> Option<&'t Arm<'m>>
-    ensures { option_map (λ a. seen_arm a.now) result ≡ cases.chosen value.now (map seen_arm arms.now) }
-{
-    arms.get(0)
 }
 
 fn constant(
@@ -181,8 +173,8 @@ fn outside(
     let first = next(entry.line)?;
     let outer = values_in(alloc, table, known, entry.diagram)?;
     let inner = values_in(alloc, table, known, body)?;
-    let wires = table.wires(entry.diagram, outer.as_slice());
-    let frame = table.wires(body, inner.as_slice());
+    let wires = (&*table).wires(entry.diagram, outer.as_slice());
+    let frame = (&*table).wires(body, inner.as_slice());
     outside_from(alloc, &*table, wires, &[frame], body, first, &*lines)
 }
 

@@ -49,7 +49,7 @@ returns-in_ok-push_first-in-InPlace-clause-steps c =
     on_ok_weaker c.push_outputs.result
     (λ h types.
     let e : lines.Entry = seen c.args.entry.now in
-    two_steps (map (step_of types) c.args.steps.now.items) (map (step_of types) c.push_first.new.steps.items) (map (step_of types) c.push_outputs.new.steps.items) _ _
+    two_steps (map (step_of types) c.args.steps.now.items) (map (step_of types) c.push_first-in-InPlace.new.steps.items) (map (step_of types) c.push_outputs.new.steps.items) _ _
     (kind_steps types e (seen_kind c.args.entry.now.kind)) (c.in_ok-push_first-in-InPlace.ensures.steps types) (h types)
     (place_steps types e c.in-InPlace.lines.now c.in-InPlace.body c.in-InPlace.finish (ap seen_kind c.in-InPlace.is) ∙ ap (λ k. kind_steps types e (seen_kind k)) (sym c.in-InPlace.is)))
     c.push_outputs.ensures.steps

@@ -10,4 +10,4 @@ use Rattle.g_bodies.proofs.turns.first_known.Given as goal
 abbrev pub invariant-loop-at : goal.invariant-loop-at
 invariant-loop-at l =
     (vi : FlatVi) → IsViTable vi l.table
-    → first_from l.at-index (λ s. is_known (known_in vi l.known) (step_of vi.types s)) (drop l.at-index l.steps) ≡ first_from 0 (λ s. is_known (known_in vi l.known) (step_of vi.types s)) l.steps
+    → first_from l.at (λ s. is_known (known_in vi l.known) (step_of vi.types s)) (drop l.at l.steps) ≡ first_from 0 (λ s. is_known (known_in vi l.known) (step_of vi.types s)) l.steps
