@@ -1,6 +1,5 @@
 -- The steps of nodes, and what they need.
-use Rattle.std.proofs.Common.{◌≡◌, ℕ, ◌+◌, Bool, true, false, not, ◌&&◌, List, [], ◌∷◌, ◌++◌, map, refl, sym, ap, ◌∙◌, subst}
-use Rattle.std.specs.Prelude.{Option, if◌then◌else◌}
+use Rattle.std.proofs.Common.{◌≡◌, ℕ, zero, suc, ◌+◌, ◌<◌, ◌≤◌, Bool, true, false, ◌&&◌, List, [], ◌∷◌, ◌++◌, map, length, drop, get_or, refl, sym, ap, ◌∙◌, subst, arith}
 use Rattle.std.specs.List.{list_all}
 use Rattle.std.proofs.lemmas.List.{append-nil}
 use denote.Ref.{Bor}
@@ -14,8 +13,10 @@ use Rattle.g_border.specs.Bodies as bodies
 use Rattle.g_border.specs.Bodies.{Readers, in_diagram, kind_steps}
 use Rattle.g_border.specs.Readers.{has_value, inputs_of, node_lines, wires_taken, wires_taken_on}
 use Rattle.g_typing.specs.Types.{Types}
+use Rattle.g_diagram_table.specs.declared.entry.Entry.{Entry}
+use Rattle.g_diagram_table.specs.Seen.{seen, seen_kind}
 use Rattle.g_bodies.specs.declared.steps.Step.{Step}
-use Rattle.g_bodies.specs.Steps.{seen_read, reads_of, taken_outside, taken_inside, first_step, results_step, outputs_step, StepFits, AllFit, InputsFit, WorkFits}
+use Rattle.g_bodies.specs.Steps.{seen_read, reads_of, taken_outside, taken_inside, first_step, results_step, outputs_step, StepFits, AllFit, InputsFit, NodeFits, NodesFit}
 
 -- ---- one more step
 
@@ -114,3 +115,42 @@ assoc_steps (z ∷ zs) x y new e = ap (λ ss. z ∷ ss) (assoc_steps zs x y new 
 
 pub two_steps : {A : Type 0} (old mid all : List A) (x y : A) (new : List A) → mid ≡ old ++ x ∷ [] → all ≡ mid ++ y ∷ [] → x ∷ y ∷ [] ≡ new → all ≡ old ++ new
 two_steps old mid all x y new e f g = f ∙ ap (λ ss. ss ++ y ∷ []) e ∙ assoc_steps old x y new g
+
+-- ---- nodes one after another
+
+drop_first : {A : Type 0} (i : ℕ) (xs : List A) (d : A) → i < length xs → drop i xs ≡ get_or xs i d ∷ drop (suc i) xs
+drop_first zero [] d lt = absurd (omega (arith, lt))
+drop_first zero (x ∷ xs) d lt = refl
+drop_first (suc i) [] d lt = absurd (omega (arith, lt))
+drop_first (suc i) (x ∷ xs) d lt = drop_first i xs d (omega (arith, lt))
+
+pub drop_all : {A : Type 0} (i : ℕ) (xs : List A) → length xs ≤ i → drop i xs ≡ []
+drop_all zero [] le = refl
+drop_all zero (x ∷ xs) le = absurd (omega (arith, le))
+drop_all (suc i) [] le = refl
+drop_all (suc i) (x ∷ xs) le = drop_all i xs (omega (arith, le))
+
+joined : {A : Type 0} (xs ys zs : List A) → (xs ++ ys) ++ zs ≡ xs ++ (ys ++ zs)
+joined [] ys zs = refl
+joined (x ∷ xs) ys zs = ap (λ ws. x ∷ ws) (joined xs ys zs)
+
+drop_next : {A : Type 0} (i : ℕ) (xs : List A) (d : A) → i < length xs → drop i xs ≡ get_or xs i d ∷ drop (i + 1) xs
+drop_next i xs d lt = let n : suc i ≡ i + 1 = omega arith in drop_first i xs d lt ∙ ap (λ k. get_or xs i d ∷ drop k xs) n
+
+pub entries_more : (types : Types) (es : List Entry) (i : ℕ) (d e : Entry) (old new all : List bodies.Step) → i < length es → e ≡ get_or es i d
+    → new ≡ old ++ kind_steps types (seen e) (seen_kind e.kind)
+    → old ++ bodies.steps_of types (map seen (drop i es)) ≡ all → new ++ bodies.steps_of types (map seen (drop (i + 1) es)) ≡ all
+entries_more types es i d e old new all lt same more inv =
+    let these : Entry → List bodies.Step = λ x. kind_steps types (seen x) (seen_kind x.kind) in
+    ap (λ ss. ss ++ bodies.steps_of types (map seen (drop (i + 1) es))) (more ∙ ap (λ x. old ++ these x) same)
+    ∙ joined old (these (get_or es i d)) (bodies.steps_of types (map seen (drop (i + 1) es)))
+    ∙ ap (λ xs. old ++ bodies.steps_of types (map seen xs)) (sym (drop_next i es d lt)) ∙ inv
+
+pub fits_more : (r : ℕ → Readers) (es : List Entry) (i : ℕ) (d e : Entry) (old new : List Step) → i < length es → e ≡ get_or es i d
+    → (NodeFits r (seen e) → AllFit r old → AllFit r new)
+    → AllFit r old × NodesFit r (map seen (drop i es)) → AllFit r new × NodesFit r (map seen (drop (i + 1) es))
+fits_more r es i d e old new lt same more both =
+    let P : List Entry → Type 0 = λ xs. NodesFit r (map seen xs) in
+    let nodes : P (get_or es i d ∷ drop (i + 1) es) = subst P (drop_next i es d lt) both.1 in
+    let Q : Entry → Type 0 = λ x. NodeFits r (seen x) in
+    (more (subst Q (sym same) nodes.0) both.0, nodes.1)

@@ -29,18 +29,19 @@ unsome a b e = cc
 
 taken : (r : Readers) (types : Types) (k : ℕ) (ss : List Step) (at : ℕ) (d : Step) → first_from k (λ s. is_known r (step_of types s)) ss ≡ Some at → Taken r types k ss at d
 taken r types k [] at d e = cc
-taken r types k (s ∷ ss) at d e = by (is_known r (step_of types s)) refl e
+taken r types k (s ∷ ss) at d e = by (is_known r (step_of types s)) refl (λ g. taken r types (suc k) ss at d g) e
   where
-    by : (b : Bool) → is_known r (step_of types s) ≡ b → (if b then Some k else first_from (suc k) (λ s. is_known r (step_of types s)) ss) ≡ Some at → Taken r types k (s ∷ ss) at d
-    by true h g =
+    by : (b : Bool) → is_known r (step_of types s) ≡ b → (first_from (suc k) (λ s. is_known r (step_of types s)) ss ≡ Some at → Taken r types (suc k) ss at d)
+        → (if b then Some k else first_from (suc k) (λ s. is_known r (step_of types s)) ss) ≡ Some at → Taken r types k (s ∷ ss) at d
+    by true h more g =
         record {
           place = 0;
           place_is = (let same : k ≡ at = unsome k at g in omega (arith, same));
           known = h;
           next = ap (λ (b : Bool). if b then Some (step_of types s, map (step_of types) ss) else option_map (λ t. (t.0, step_of types s ∷ t.1)) (next_step r (map (step_of types) ss))) h;
         }
-    by false h g =
-        let rest : Taken r types (suc k) ss at d = taken r types (suc k) ss at d g in
+    by false h more g =
+        let rest : Taken r types (suc k) ss at d = more g in
         record {
           place = suc rest.place;
           place_is = (let same = rest.place_is in omega (arith, same));
@@ -51,12 +52,13 @@ taken r types k (s ∷ ss) at d e = by (is_known r (step_of types s)) refl e
 
 none_taken : (r : Readers) (types : Types) (k : ℕ) (ss : List Step) → first_from k (λ s. is_known r (step_of types s)) ss ≡ None → next_step r (map (step_of types) ss) ≡ None
 none_taken r types k [] e = refl
-none_taken r types k (s ∷ ss) e = by (is_known r (step_of types s)) e
+none_taken r types k (s ∷ ss) e = by (is_known r (step_of types s)) (λ g. none_taken r types (suc k) ss g) e
   where
-    by : (b : Bool) → (if b then Some k else first_from (suc k) (λ s. is_known r (step_of types s)) ss) ≡ None
+    by : (b : Bool) → (first_from (suc k) (λ s. is_known r (step_of types s)) ss ≡ None → next_step r (map (step_of types) ss) ≡ None)
+        → (if b then Some k else first_from (suc k) (λ s. is_known r (step_of types s)) ss) ≡ None
         → (if b then Some (step_of types s, map (step_of types) ss) else option_map (λ t. (t.0, step_of types s ∷ t.1)) (next_step r (map (step_of types) ss))) ≡ None
-    by true g = cc
-    by false g = ap (option_map (λ t. (t.0, step_of types s ∷ t.1))) (none_taken r types (suc k) ss g)
+    by true more g = cc
+    by false more g = ap (option_map (λ t. (t.0, step_of types s ∷ t.1))) (more g)
 
 pub taken_at : (r : Readers) (types : Types) (ss : List Step) (at : ℕ) (d : Step) → first_from 0 (λ s. is_known r (step_of types s)) ss ≡ Some at
     → (is_known r (step_of types (get_or ss at d)) ≡ true)
@@ -148,11 +150,11 @@ more_found gs more = λ i p. given_both gs more p i
 pub turns_found : (ports : List Port) (n : ℕ) (ss : List bodies.Step) (gs : Given) → value_given (turns ports n ss gs) ≡ turns_by ports n ss (value_given gs)
 unfolding turns
 turns_found ports zero ss gs = refl
-turns_found ports (suc n) ss gs = by (next_step (readers ports gs) ss)
+turns_found ports (suc n) ss gs = by (next_step (readers ports gs) ss) (λ ts more. turns_found ports n ts more)
   where
     by : (o : Option (bodies.Step × List bodies.Step))
+        → ((ts : List bodies.Step) (more : Given) → value_given (turns ports n ts more) ≡ turns_by ports n ts (value_given more))
         → value_given (option_map_or (λ t. turns ports n t.1 (gs ++ t.0.gives (readers ports gs))) o gs)
         ≡ option_map_or (λ t. turns_by ports n t.1 (with_more (value_given gs) (t.0.gives (readers ports gs)))) o (value_given gs)
-    by None = refl
-    by (Some t) =
-        turns_found ports n t.1 (gs ++ t.0.gives (readers ports gs)) ∙ ap (turns_by ports n t.1) (more_found gs (t.0.gives (readers ports gs)))
+    by None h = refl
+    by (Some t) h = h t.1 (gs ++ t.0.gives (readers ports gs)) ∙ ap (turns_by ports n t.1) (more_found gs (t.0.gives (readers ports gs)))

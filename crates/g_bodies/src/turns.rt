@@ -74,7 +74,7 @@ fn take_turns(
     known: &mut Known,
 ) -> Result<(), AllocError>
     requires { (vi : FlatVi) × (IsViTable vi table.now × StepsFit vi steps.items (found known.old)) }
-    ensures { OnOk result ((vi : FlatVi) → IsViTable vi table.now → found known.new ≡ after vi steps.items (found known.old) (length steps.items)) }
+    ensures { OnOk result ((vi : FlatVi) → IsViTable vi table.now → found known.new ≡ after vi steps.entry.items (found known.old) (length steps.entry.items)) }
 {
     let mut steps = steps;
     for _ in 0..steps.len() {
