@@ -4,16 +4,21 @@ use Rattle.std.specs.Prelude.{if◌then◌else◌, Option, Some, None}
 use Rattle.std.specs.Option.{option_map, option_map_or, option_or}
 use Rattle.std.specs.List.{list_all}
 use Rattle.g_values.specs.declared.value.Value.{Value}
+use Rattle.g_diagram.specs.Lines as lines
 use Rattle.g_diagram.specs.Ports.{Port}
+use Rattle.g_diagram_table.specs.declared.entry.Entry.{Entry}
+use Rattle.g_diagram_table.specs.Seen.{seen}
+use Rattle.g_effects.specs.Needs.{FitsPrimitive}
+use Rattle.g_needs.specs.Bodies.{BodyNeeds, IsAmong, among, after_turns}
 use Rattle.g_typing.specs.Types.{Types}
 use Rattle.g_border.specs.declared.place.WireSource.{WireSource}
 use Rattle.g_border.specs.Bodies as bodies
-use Rattle.g_border.specs.Bodies.{Readers, is_known, next_step, turns, readers}
-use Rattle.g_border.specs.Readers.{Given, same_source, value_given, has_value}
+use Rattle.g_border.specs.Bodies.{Readers, is_known, next_step, turns, readers, inside_of, body_reader}
+use Rattle.g_border.specs.Readers.{Given, same_source, value_given, has_value, value_on}
 use Rattle.g_frames.specs.Program.{FlatVi}
 use Rattle.g_bodies.specs.declared.steps.Step.{Step}
 use Rattle.g_bodies.specs.Known.{Found, with_more, readers_by}
-use Rattle.g_bodies.specs.Steps.{step_of, gives_of, reads_of, WorkFits, StepFits, AllFit}
+use Rattle.g_bodies.specs.Steps.{step_of, gives_of, reads_of, WorkFits, StepFits, AllFit, NodeFits, NodesFit}
 use Rattle.g_bodies.specs.Turns.{turns_by, after, first_from, StepsFit}
 
 -- ---- the step of a turn
@@ -47,7 +52,7 @@ taken r types k (s ∷ ss) at d e = by (is_known r (step_of types s)) refl (λ g
           place_is = (let same = rest.place_is in omega (arith, same));
           known = rest.known;
           next = ap (λ (b : Bool). if b then Some (step_of types s, map (step_of types) ss) else option_map (λ t. (t.0, step_of types s ∷ t.1)) (next_step r (map (step_of types) ss))) h
-          ∙ ap (option_map (λ t. (t.0, step_of types s ∷ t.1))) rest.next;
+              ∙ ap (option_map (λ t. (t.0, step_of types s ∷ t.1))) rest.next;
         }
 
 none_taken : (r : Readers) (types : Types) (k : ℕ) (ss : List Step) → first_from k (λ s. is_known r (step_of types s)) ss ≡ None → next_step r (map (step_of types) ss) ≡ None
@@ -56,7 +61,9 @@ none_taken r types k (s ∷ ss) e = by (is_known r (step_of types s)) (λ g. non
   where
     by : (b : Bool) → (first_from (suc k) (λ s. is_known r (step_of types s)) ss ≡ None → next_step r (map (step_of types) ss) ≡ None)
         → (if b then Some k else first_from (suc k) (λ s. is_known r (step_of types s)) ss) ≡ None
-        → (if b then Some (step_of types s, map (step_of types) ss) else option_map (λ t. (t.0, step_of types s ∷ t.1)) (next_step r (map (step_of types) ss))) ≡ None
+        → (let t : bodies.Step × List bodies.Step = (step_of types s, map (step_of types) ss) in
+        let o : Option (bodies.Step × List bodies.Step) = option_map (λ t. (t.0, step_of types s ∷ t.1)) (next_step r (map (step_of types) ss)) in
+        (if b then Some t else o) ≡ None)
     by true more g = cc
     by false more g = ap (option_map (λ t. (t.0, step_of types s ∷ t.1))) (more g)
 
@@ -158,3 +165,56 @@ turns_found ports (suc n) ss gs = by (next_step (readers ports gs) ss) (λ ts mo
         ≡ option_map_or (λ t. turns_by ports n t.1 (with_more (value_given gs) (t.0.gives (readers ports gs)))) o (value_given gs)
     by None h = refl
     by (Some t) h = h t.1 (gs ++ t.0.gives (readers ports gs)) ∙ ap (turns_by ports n t.1) (more_found gs (t.0.gives (readers ports gs)))
+
+-- ---- a whole body
+
+length_same : (types : Types) (ss : List Step) → length ss ≡ length (map (step_of types) ss)
+length_same types [] = refl
+length_same types (s ∷ ss) = ap suc (length_same types ss)
+
+nodes_fit : (r : ℕ → Readers) (es : List lines.Entry) → ((e : lines.Entry) → IsAmong e es → NodeFits r e) → NodesFit r es
+nodes_fit r [] h = tt
+nodes_fit r (e ∷ es) h = (h e (among 0 refl), nodes_fit r es (λ x a. h x (further x a)))
+  where
+    further : (x : lines.Entry) → IsAmong x es → IsAmong x (e ∷ es)
+    further x (among k is) = among (suc k) is
+
+-- the code's steps and what it begins with are those of a body
+pub record IsBody (vi : FlatVi) (body finish : ℕ) (inside : Given) (es : List Entry) (ss : List Step) (f : Found) : Type 0 where
+  pub nodes_are : map seen es ≡ inside_of body finish vi.entries
+  pub steps_are : map (step_of vi.types) ss ≡ bodies.steps_of vi.types (map seen es)
+  pub found_is : (p : WireSource) → f p ≡ value_given inside p
+
+steps_in : (vi : FlatVi) (body finish : ℕ) (inside : Given) (es : List Entry) (ss : List Step) (f : Found) → IsBody vi body finish inside es ss f
+    → map (step_of vi.types) ss ≡ bodies.steps_of vi.types (inside_of body finish vi.entries)
+steps_in vi body finish inside es ss f is = is.steps_are ∙ ap (bodies.steps_of vi.types) is.nodes_are
+
+begins : (vi : FlatVi) (body finish : ℕ) (inside : Given) (es : List Entry) (ss : List Step) (f : Found) → IsBody vi body finish inside es ss f → f ≡ value_given inside
+begins vi body finish inside es ss f is = λ i p. is.found_is p i
+
+same_after : (vi : FlatVi) (body finish : ℕ) (inside : Given) (es : List Entry) (ss : List Step) (f : Found) → IsBody vi body finish inside es ss f
+    → (n : ℕ) → after_turns vi body finish inside n ≡ readers_by vi.ports (after vi ss f n)
+same_after vi body finish inside es ss f is n =
+    let steps : List bodies.Step = bodies.steps_of vi.types (inside_of body finish vi.entries) in
+    ap (readers_by vi.ports) (turns_found vi.ports n steps inside)
+    ∙ ap (λ g. readers_by vi.ports (turns_by vi.ports n steps g)) (sym (begins vi body finish inside es ss f is))
+    ∙ ap (λ xs. readers_by vi.ports (turns_by vi.ports n xs f)) (sym (steps_in vi body finish inside es ss f is))
+
+pub body_fits : (vi : FlatVi) (body finish : ℕ) (inside : Given) (es : List Entry) (ss : List Step) (f : Found) → IsBody vi body finish inside es ss f
+    → ((r : ℕ → Readers) → NodesFit r (map seen es) → AllFit r ss) → BodyNeeds vi body finish inside → StepsFit vi ss f
+body_fits vi body finish inside es ss f is fits needs =
+    let r : ℕ → Readers = λ n. readers_by vi.ports (after vi ss f n) in
+    let one : (e : lines.Entry) → IsAmong e (inside_of body finish vi.entries) → NodeFits r e = λ e a op inputs outputs k n.
+    let Q : Readers → Type 0 = λ x. list_all (has_value (x e.diagram)) inputs ≡ true → FitsPrimitive op (map (value_on (x e.diagram)) inputs) in
+    subst Q (same_after vi body finish inside es ss f is n) (needs n e op inputs outputs a k) in
+    fits r (subst (NodesFit r) (sym is.nodes_are) (nodes_fit r (inside_of body finish vi.entries) one))
+
+pub body_read : (vi : FlatVi) (body finish : ℕ) (inside : Given) (es : List Entry) (ss : List Step) (f g : Found) → IsBody vi body finish inside es ss f
+    → g ≡ after vi ss f (length ss) → readers_by vi.ports g body ≡ body_reader vi.ports vi.types vi.entries body finish inside
+body_read vi body finish inside es ss f g is e =
+    let steps : List bodies.Step = bodies.steps_of vi.types (inside_of body finish vi.entries) in
+    ap (λ x. readers_by vi.ports x body)
+    (e ∙ ap (λ n. turns_by vi.ports n (map (step_of vi.types) ss) f) (length_same vi.types ss)
+    ∙ ap (λ xs. turns_by vi.ports (length xs) xs f) (steps_in vi body finish inside es ss f is)
+    ∙ ap (turns_by vi.ports (length steps) steps) (begins vi body finish inside es ss f is)
+    ∙ sym (turns_found vi.ports (length steps) steps inside))

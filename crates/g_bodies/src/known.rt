@@ -45,12 +45,7 @@ pub fn give(known: &mut Known, given: Given) -> Result<(), AllocError>
 }
 
 /// The value on the wire of a name in a diagram, where there is one.
-fn named<'k>(
-    table: &ViTable<'_>,
-    known: &'k Known,
-    diagram: u32,
-    name: &[u8],
-) -> Option<&'k Value>
+fn named<'k>(table: &ViTable<'_>, known: &'k Known, diagram: u32, name: &[u8]) -> Option<&'k Value>
     ensures { (vi : FlatVi) → IsViTable vi table.now → option_copied result ≡ known_in vi known.now diagram name.now }
 {
     match table.source_of(diagram, name) {

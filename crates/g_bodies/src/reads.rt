@@ -26,11 +26,7 @@ fn name_of(wire: &Wire) -> Option<&[u8]>
 }
 
 /// Adds a wire of a diagram.
-pub fn push_wire<'m>(
-    reads: &mut Reads<'m>,
-    diagram: u32,
-    wire: &'m Wire,
-) -> Result<(), AllocError>
+pub fn push_wire<'m>(reads: &mut Reads<'m>, diagram: u32, wire: &'m Wire) -> Result<(), AllocError>
     ensures { OnOk result (map seen_read reads.new.items ≡ map seen_read reads.old.items ++ (diagram, wire.now) ∷ []) }
 {
     reads.push((diagram, name_of(wire)))?;
@@ -102,7 +98,9 @@ fn push_inside<'m>(
         | Tunnel::Ref { next, .. }
         | Tunnel::Element { next, .. }
         | Tunnel::Field { next, .. } => push_wire(reads, diagram, next)?,
-        Tunnel::Last { inner, .. } | Tunnel::Gather { inner, .. } => push_wire(reads, diagram, inner)?,
+        Tunnel::Last { inner, .. } | Tunnel::Gather { inner, .. } => push_wire(
+            reads, diagram, inner,
+        )?,
         Tunnel::Tunnel { .. }
         | Tunnel::Index { .. }
         | Tunnel::Result { .. }

@@ -180,7 +180,9 @@ fn push_steps<'t, 'm>(
     match &entry.kind {
         Kind::Const { ty, literal, .. } => push_const(alloc, steps, entry, *ty, *literal),
         Kind::Apply {
-            primitive, inputs, ..
+            primitive,
+            inputs,
+            ..
         } => push_apply(alloc, steps, entry, *primitive, *inputs),
         Kind::Case {
             selector,

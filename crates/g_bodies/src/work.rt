@@ -39,12 +39,7 @@ fn next(line: u32) -> Result<u32, AllocError>
     line.checked_add(1).ok_or(AllocError)
 }
 
-fn constant(
-    alloc: Global,
-    entry: &Entry<'_>,
-    ty: &Ty,
-    literal: &Lit,
-) -> Result<Given, AllocError>
+fn constant(alloc: Global, entry: &Entry<'_>, ty: &Ty, literal: &Lit) -> Result<Given, AllocError>
     ensures { IfOk result (λ g. g ≡ readers.outputs_given (seen entry.now) (literals.literal_value literal.now ty.now ∷ [])) }
 {
     let mut values = List::new(alloc);

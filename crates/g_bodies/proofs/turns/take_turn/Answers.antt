@@ -29,10 +29,13 @@ given_by-requires c =
     (c.first_known.ensures.place vi is
     ∙ ap (first_from 0 (λ (s : Step). is_known (known_in vi c.args.known.now) (step_of vi.types s))) c.as_slice.ensures.value)
     ∙ c.in-Some.is in
-    let lt : c.in-Some.at < length ss = subst (λ (xs : List Step). c.in-Some.at < length xs) c.as_slice.ensures.value c.in-Some.ensures.within in
-    (vi,
-    (is,
-    taken_fits vi ss (found c.args.known.now) c.in-Some.at c.remove-step.result c.remove-step.result e lt c.remove-step.ensures.value c.requires.1.1))
+    let lt : c.in-Some.at < length ss = subst (λ (xs : List Step). c.in-Some.at < length xs) c.as_slice.ensures.value c.in-Some.ensures.within in (
+      vi,
+      (
+        is,
+        taken_fits vi ss (found c.args.known.now) c.in-Some.at c.remove-step.result c.remove-step.result e lt c.remove-step.ensures.value c.requires.1.1,
+      ),
+    )
 
 pub returns-clause-turn : goal.returns-clause-turn
 returns-clause-turn c =
