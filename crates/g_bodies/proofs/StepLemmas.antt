@@ -1,14 +1,12 @@
 -- The steps of nodes, and what they need.
-use Rattle.std.proofs.Common.{◌≡◌, ℕ, zero, suc, ◌+◌, ◌<◌, ◌≤◌, Bool, true, false, ◌&&◌, List, [], ◌∷◌, ◌++◌, map, length, drop, get_or, refl, sym, ap, ◌∙◌, subst, arith}
+use Rattle.std.proofs.Common.{◌≡◌, ℕ, zero, suc, ◌+◌, ◌<◌, ◌≤◌, true, false, ◌&&◌, List, [], ◌∷◌, ◌++◌, map, length, drop, get_or, refl, sym, ap, ◌∙◌, subst, arith}
 use Rattle.std.specs.List.{list_all}
 use Rattle.std.proofs.lemmas.List.{append-nil}
-use denote.Ref.{Bor}
-use Rattle.g_values.specs.declared.primitive.Primitive.{Primitive}
 use Rattle.g_diagram.specs.declared.node.Tunnel.{Tunnel}
 use Rattle.g_diagram.specs.declared.node.Tunnel.TheVariants as line
 use Rattle.g_diagram.specs.Lines as lines
 use Rattle.g_diagram.specs.Lines.{Wire, Arm}
-use Rattle.g_diagram.specs.Operands.{Side, Operand, Line, Inside, Outside, border, case_border, border_lines, kind_lines, give_line, free_consumer}
+use Rattle.g_diagram.specs.Operands.{Side, Line, Inside, Outside, border, case_border, border_lines, kind_lines, give_line, free_consumer}
 use Rattle.g_border.specs.Bodies as bodies
 use Rattle.g_border.specs.Bodies.{Readers, in_diagram, kind_steps}
 use Rattle.g_border.specs.Readers.{has_value, inputs_of, node_lines, wires_taken, wires_taken_on}
@@ -16,7 +14,7 @@ use Rattle.g_typing.specs.Types.{Types}
 use Rattle.g_diagram_table.specs.declared.entry.Entry.{Entry}
 use Rattle.g_diagram_table.specs.Seen.{seen, seen_kind}
 use Rattle.g_bodies.specs.declared.steps.Step.{Step}
-use Rattle.g_bodies.specs.Steps.{seen_read, reads_of, taken_outside, taken_inside, first_step, results_step, outputs_step, StepFits, AllFit, InputsFit, NodeFits, NodesFit}
+use Rattle.g_bodies.specs.Steps.{taken_outside, taken_inside, first_step, results_step, outputs_step, StepFits, AllFit, NodeFits, NodesFit}
 
 -- ---- one more step
 

@@ -3,7 +3,7 @@ use Rattle.std.specs.Prelude.{ℕ, zero, suc, Bool, List, [], ◌∷◌, map, Op
 use Rattle.std.specs.Option.{option_map_or}
 use Rattle.g_diagram.specs.Ports.{Port}
 use Rattle.g_frames.specs.Program.{FlatVi}
-use Rattle.g_border.specs.Bodies.{Readers, Step, next_step}
+use Rattle.g_border.specs.Bodies.{Step, next_step}
 use Rattle.g_bodies.specs.declared.steps.Step as code
 use Rattle.g_bodies.specs.Known.{Found, with_more, readers_by}
 use Rattle.g_bodies.specs.Steps.{step_of, AllFit}

@@ -1,15 +1,14 @@
 //! The turns of a body.
 
 ghost use Rattle.std.specs.Prelude.{◌≡◌, ◌<◌, ℕ, suc, length, map, List as TheList, IfOk, IfSome, OnOk};
-ghost use Rattle.std.specs.List.{list_all};
 ghost use Rattle.g_border.specs.Bodies.{body_reader, is_known};
-ghost use Rattle.g_border.specs.Readers.{has_value, value_given};
+ghost use Rattle.g_border.specs.Readers.{value_given};
 ghost use Rattle.g_border.specs.declared.place.WireSource.{WireSource as Place};
 ghost use Rattle.g_frames.specs.Program.{FlatVi};
 ghost use Rattle.g_needs.specs.Bodies.{BodyNeeds};
 ghost use Rattle.g_vi_tables.specs.Tables.{IsViTable, reader_at};
 ghost use Rattle.g_bodies.specs.Known.{found, known_in};
-ghost use Rattle.g_bodies.specs.Steps.{reads_of, step_of};
+ghost use Rattle.g_bodies.specs.Steps.{step_of};
 ghost use Rattle.g_bodies.specs.Turns.{after, first_from, StepsFit};
 
 use crate::known::{Given, Known, give, has, values_in};

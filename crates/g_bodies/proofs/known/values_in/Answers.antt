@@ -1,7 +1,5 @@
-use Rattle.std.proofs.Common.{◌≡◌, List, map, ap, ◌∙◌}
-use Rattle.std.specs.Prelude.{Option}
+use Rattle.std.proofs.Common.{List, map, ap, ◌∙◌}
 use Rattle.std.proofs.lemmas.Result.{IfOk-weaker}
-use Rattle.g_values.specs.declared.value.Value.{Value}
 use Rattle.g_border.specs.declared.place.WireSource.{WireSource}
 use Rattle.g_vi_tables.specs.Tables.{reader_at}
 use Rattle.g_bodies.specs.Known.{found}

@@ -1,7 +1,7 @@
-use Rattle.std.proofs.Common.{◌≡◌, ap, ◌∙◌}
+use Rattle.std.proofs.Common.{ap, ◌∙◌}
 use Rattle.std.proofs.lemmas.Result.{IfOk-weaker}
 use Rattle.g_frames.specs.Program.{FlatVi}
-use Rattle.g_bodies.specs.Known.{found, readers_by}
+use Rattle.g_bodies.specs.Known.{found}
 use Rattle.g_bodies.proofs.TurnLemmas.{IsBody, body_fits, body_read}
 use Rattle.g_bodies.proofs.turns.body_values.Goals as goal
 

@@ -1,4 +1,4 @@
-use Rattle.std.proofs.Common.{◌≡◌, ◌+◌, ℕ, suc, length, ap, ◌∙◌, arith}
+use Rattle.std.proofs.Common.{◌≡◌, ◌+◌, suc, length, ap, ◌∙◌, arith}
 use Rattle.g_bodies.specs.Known.{found}
 use Rattle.g_bodies.specs.Turns.{after}
 use Rattle.g_bodies.proofs.turns.take_turns.Goals as goal
