@@ -38,7 +38,7 @@ fn apply(
     firing: Firing,
     effect: Effect,
 ) -> Result<bool, AllocError>
-    ensures { IfOk result (λ done. (p : Program) (h : Here) (e : Node) → IsTableOf p tables.now → h.frames ≡ state.old.frames → CarriesOut p state.old firing (planned h e (progress_at p state.old.frames firing) (plans.Effect effect)) done state.new) }
+    ensures { IfOk result (λ done. (p : Program) (room : Bool) (f : One) (vi : FlatVi) (e : Node) → IsTableOf p tables.now → CarriesOut p state.old firing (planned (step.here p room state.old f vi) e (progress_at p state.old.frames firing) (plans.Effect effect)) done state.new) }
 {
     state.apply(alloc, tables, firing, effect)?;
     Ok(true)
@@ -83,7 +83,10 @@ fn ask(
             follow_up(alloc, state, tables, firing, entry, follow, reply)?;
             Ok(true)
         }
-        Tried::NotYet(_) => Ok(false),
+        Tried::NotYet(back) => {
+            drop(back);
+            Ok(false)
+        }
         Tried::Memory => Err(AllocError),
     }
 }
@@ -148,11 +151,14 @@ pub fn enter_any(
 {
     match state.try_op(alloc, object, Operation::OnPool(PoolOp::Enter), None) {
         Tried::Done(reply) => {
-            let clone = u64::from(reply.choice);
+            let clone = reply.choice as u64;
             follow_up(alloc, state, tables, firing, entry, Then::CallEnters, reply)?;
             Ok(Some(clone))
         }
-        Tried::NotYet(_) => Ok(None),
+        Tried::NotYet(back) => {
+            drop(back);
+            Ok(None)
+        }
         Tried::Memory => Err(AllocError),
     }
 }
