@@ -1,4 +1,4 @@
--- The values that are given so far, by their sources.
+-- Inner: the values that are given so far, by their sources.
 use Rattle.std.specs.Prelude.{List, Option}
 use Rattle.std.specs.Ordering.{ordering_then, nat_cmp}
 use Rattle.std.specs.Option.{option_and_then, option_or}

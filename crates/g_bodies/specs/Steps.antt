@@ -1,4 +1,4 @@
--- The steps of a body in place, as the code has them.
+-- Inner: the steps of a body in place, as the code has them.
 use Rattle.std.specs.Prelude.{◌≡◌, ℕ, ◌+◌, true, List, [], ◌∷◌, ◌++◌, map, Option}
 use Rattle.std.specs.List.{list_all}
 use Rattle.std.specs.Option.{option_map}

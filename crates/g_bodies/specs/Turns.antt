@@ -1,4 +1,4 @@
--- The turns of a body, by what is found at sources.
+-- Inner: the turns of a body, by what is found at sources.
 use Rattle.std.specs.Prelude.{ℕ, zero, suc, Bool, List, [], ◌∷◌, map, Option, Some, None, if◌then◌else◌}
 use Rattle.std.specs.Option.{option_map_or}
 use Rattle.g_diagram.specs.Ports.{Port}
