@@ -27,8 +27,9 @@ use Rattle.g_valtext.proofs.Steps.{form-Num}
 use Rattle.g_line.specs.declared.forms.Setting.{Setting}
 use Rattle.g_line.specs.declared.forms.Line.TheVariants.{Print}
 use Rattle.g_line.specs.Forms.{Sets}
-use Rattle.g_line.specs.Reading.{IsFirstOther}
-use Rattle.g_line.proofs.Stops.{stops_second, stops_later}
+use Rattle.g_line.specs.Reading.{AreRead}
+use Rattle.g_line.proofs.Stops.{stops_second}
+use Rattle.g_line.proofs.Runs.{stops_word}
 use Rattle.g_diagram.specs.declared.hierarchy.Hierarchy.{Hierarchy}
 use Rattle.g_diagram.specs.declared.hierarchy.Vi.{Vi}
 use Rattle.g_diagram.specs.declared.place.Break.{Break}
@@ -131,21 +132,19 @@ no_sign name text e = let none : false ≡ true = ap (list_any (λ b. b == 61)) 
 abbrev unset : List (List ℕ)
 unset = codes "run" ∷ main ∷ codes "a" ∷ []
 
-third_is_none : IsFirstOther unset 2 3
+third_is_none : AreRead unset 2 [] [] 2
 third_is_none = record {
-  at = 2;
-  is = refl;
-  from = omega arith;
-  within = omega arith;
   settings = [];
-  before = record { right = tt; each = refl; numbered = tt; written = refl };
+  joined = refl;
+  are = record { right = tt; each = refl; numbered = tt; written = refl };
+  within = omega arith;
   other = λ word is s name same. let third : codes "a" ≡ word = cc in no_sign s.name s.text (third ∙ same);
 }
 
 -- and then settings
 no_setting : IsAnswer unset bytes None (reply 1 (codes "usage at word 3\n"))
 unfolding digits
-no_setting = usage 3 (stops_later unset 3 main refl (record { second = refl; name = refl }) third_is_none)
+no_setting = usage 3 (stops_word unset main [] 2 (codes "a") refl (record { second = refl; name = refl }) third_is_none refl (λ e. absurd cc))
 
 -- ---- a refused token
 
@@ -333,8 +332,8 @@ set name text = record { word = 3; name = name; text = text } ∷ []
 -- the rules come before the settings
 runs_other : IsAnswer (codes "run" ∷ other ∷ codes "b=1" ∷ []) bytes None (reply 3 (codes "Other:0.0 rule 9\n"))
 unfolding digits
-runs_other = runs other (set (codes "b") (codes "1")) h None (reply 3 (codes "Other:0.0 rule 9\n"))
-    (Sets (record { word = 3; name = codes "b"; text = codes "1" }) ∷ [], record { written = refl; main_is_name = refl; right = (refl, tt); numbered = (refl, tt); given = refl })
+runs_other = runs other (set (codes "b") (codes "1")) 100_000 h None (reply 3 (codes "Other:0.0 rule 9\n"))
+    (Sets (record { word = 3; name = codes "b"; text = codes "1" }) ∷ [], record { written = refl; main_is_name = refl; right = (refl, tt); numbered = (refl, tt); once = omega arith; given = refl; limited = refl })
     (omega arith) is_listing (run_broken (absent ∷ []) one_broken (λ e. absurd cc))
 
 plain : IsPlain h 0
@@ -343,8 +342,8 @@ plain = record { vi = vi_of doubling; stands = refl; nodes = ap (λ n. is_plain_
 -- no control is called `b`
 no_control : IsAnswer (codes "run" ∷ main ∷ codes "b=1" ∷ []) bytes None (reply 4 (codes "control at word 3\n"))
 unfolding digits plain
-no_control = runs main (set (codes "b") (codes "1")) h None (reply 4 (codes "control at word 3\n"))
-    (Sets (record { word = 3; name = codes "b"; text = codes "1" }) ∷ [], record { written = refl; main_is_name = refl; right = (refl, tt); numbered = (refl, tt); given = refl })
+no_control = runs main (set (codes "b") (codes "1")) 100_000 h None (reply 4 (codes "control at word 3\n"))
+    (Sets (record { word = 3; name = codes "b"; text = codes "1" }) ∷ [], record { written = refl; main_is_name = refl; right = (refl, tt); numbered = (refl, tt); once = omega arith; given = refl; limited = refl })
     (omega arith) is_listing (wrong_control plain (record { word = 3; name = codes "b"; text = codes "1" }) unbroken unnamed)
   where
     unnamed : IsWrongSetting (controls doubling.panel) (set (codes "b") (codes "1")) (record { word = 3; name = codes "b"; text = codes "1" })
@@ -387,6 +386,6 @@ run_so = record {
 
 runs_it : IsAnswer (codes "run" ∷ main ∷ codes "a=2" ∷ []) bytes (Some trace) (reply 0 (codes "r = 4\n"))
 unfolding plain lexemes
-runs_it = runs main (set (codes "a") (codes "2")) h (Some trace) (reply 0 (codes "r = 4\n"))
-    (Sets (record { word = 3; name = codes "a"; text = codes "2" }) ∷ [], record { written = refl; main_is_name = refl; right = (refl, tt); numbered = (refl, tt); given = refl })
+runs_it = runs main (set (codes "a") (codes "2")) 100_000 h (Some trace) (reply 0 (codes "r = 4\n"))
+    (Sets (record { word = 3; name = codes "a"; text = codes "2" }) ∷ [], record { written = refl; main_is_name = refl; right = (refl, tt); numbered = (refl, tt); once = omega arith; given = refl; limited = refl })
     (omega arith) is_listing (ran plain two trace (reply 0 (codes "r = 4\n")) unbroken two_is_given run_so)

@@ -159,12 +159,12 @@ one_done main settings h trace r s (kept unbroken a) (kept too b) = one_kept mai
 -- ---- words that have a line
 
 abbrev IsDoneBy : Line → Hierarchy → Option (List Firing) → Reply → Type 0
-IsDoneBy (Run main settings) h trace r = IsDone main settings h trace r
+IsDoneBy (Run main settings limit) h trace r = IsDone main settings h trace r
 IsDoneBy (Check main) h trace r = IsCheck main h r
 IsDoneBy Print h trace r = r ≡ reply 0 (text_of h)
 
 one_done_by : (line : Line) (h : Hierarchy) (trace : Option (List Firing)) (r s : Reply) → IsDoneBy line h trace r → IsDoneBy line h trace s → r ≡ s
-one_done_by (Run main settings) h trace r s a b = one_done main settings h trace r s a b
+one_done_by (Run main settings limit) h trace r s a b = one_done main settings h trace r s a b
 one_done_by (Check main) h trace r s a b = one_check main h r s a b
 one_done_by Print h trace r s a b = a ∙ sym b
 
@@ -197,7 +197,7 @@ one_by words bytes trace r (syntax line spot has short a) = lined line has (refu
 one_by words bytes trace r (printed h has short a) = lined Print has (listed h short a refl)
 one_by words bytes trace r (checked_broken main h bs has short a lists some) = lined (Check main) has (listed h short a (breaks bs lists some refl))
 one_by words bytes trace r (checked_ok main h has short a unbroken) = lined (Check main) has (listed h short a (ok unbroken refl))
-one_by words bytes trace r (runs main settings h t x has short a answer) = lined (Run main settings) has (listed h short a (done_by main settings h t x answer))
+one_by words bytes trace r (runs main settings limit h t x has short a answer) = lined (Run main settings limit) has (listed h short a (done_by main settings h t x answer))
 
 one_of : (words : List (List ℕ)) (bytes : List ℕ) (trace : Option (List Firing)) (r s : Reply) → IsOne words bytes trace r → IsOne words bytes trace s → r ≡ s
 one_of words bytes trace r s (unlined j a is) (unlined k b at) = is ∙ ap (λ (n : ℕ). reply 1 (line_of (codes "usage at word " ++ decimal n))) (one_word words j k a b) ∙ sym at

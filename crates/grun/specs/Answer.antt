@@ -77,7 +77,7 @@ pub data IsAnswer (words : List (List ℕ)) (bytes : List ℕ) : Option (List Fi
       → IsAnswer words bytes None (reply 3 (breaks_text main h.vis bs))
   checked_ok : (main : List ℕ) (h : Hierarchy) → HasLine words (Check main) → length bytes ≤ LIMIT → IsListing bytes h → IsUnbroken h main → IsAnswer words bytes None (reply 0 (line_of (codes "ok")))
   -- they are one, which is run
-  runs : (main : List ℕ) (settings : List Setting) (h : Hierarchy) (trace : Option (List Firing)) (r : Reply) → HasLine words (Run main settings) → length bytes ≤ LIMIT → IsListing bytes h → IsRunAnswer main settings h trace r
+  runs : (main : List ℕ) (settings : List Setting) (limit : ℕ) (h : Hierarchy) (trace : Option (List Firing)) (r : Reply) → HasLine words (Run main settings limit) → length bytes ≤ LIMIT → IsListing bytes h → IsRunAnswer main settings h trace r
       → IsAnswer words bytes trace r
 
 -- an answer is one: for the same words, bytes and trace no two replies are right

@@ -177,6 +177,6 @@ pub(crate) fn answer_line(alloc: Global, line: &Line, bytes: &[u8]) -> Result<An
     match line {
         Line::Check { main } => answer_check(alloc, &h, main),
         Line::Print => Ok(plain(0, print_listing(alloc, &h)?)),
-        Line::Run { main, settings } => answer_run(alloc, &h, main, settings.as_slice()),
+        Line::Run { main, settings, .. } => answer_run(alloc, &h, main, settings.as_slice()),
     }
 }

@@ -97,7 +97,7 @@ pub fn plain_call<S: Source, K: Sink>(
     source: &mut S,
     sink: &mut K,
 ) -> u8
-    requires { (main : Row ℕ) (settings : Row Setting) → HasLine (map string_bytes words.now.items) (Run main settings) → ⊥ }
+    requires { (main : Row ℕ) (settings : Row Setting) (limit : ℕ) → HasLine (map string_bytes words.now.items) (Run main settings limit) → ⊥ }
     ensures source_later { S.faults source.old ≤ S.faults source.new }
     ensures sink_later { K.faults sink.old ≤ K.faults sink.new }
     ensures kept { K.made_with sink.new ≡ K.made_with sink.old }

@@ -35,6 +35,6 @@ returns c =
     IfOk-weaker c.answer_run.result
     (λ (a : Answer). IsRunAnswer c.in-Run.main c.as_slice.result.now c.in-Ok.h a.trace (reply a.status a.text))
     (λ (a : Answer). (words : List (List ℕ)) → HasLine words c.args.line.now → IsAnswer words c.args.bytes.now a.trace (reply a.status a.text))
-    (λ a x words has. runs c.in-Run.main c.in-Run.settings c.in-Ok.h a.trace (reply a.status a.text) (subst (HasLine words) c.in-Run.is has) c.requires c.in-Ok.ensures.found
+    (λ a x words has. runs c.in-Run.main c.in-Run.settings c.in-Run.limit c.in-Ok.h a.trace (reply a.status a.text) (subst (HasLine words) c.in-Run.is has) c.requires c.in-Ok.ensures.found
     (subst (λ (settings : List Setting). IsRunAnswer c.in-Run.main settings c.in-Ok.h a.trace (reply a.status a.text)) c.as_slice.ensures x))
     c.answer_run.ensures
