@@ -52,7 +52,12 @@ fn coerced_to(ty: Option<&Ty>, value: Value) -> Value
 
 /// A `write` sets the cell of a control or indicator to the wire's value in its type. Only want of memory
 /// refuses it.
-pub fn writes(alloc: Global, here: &Here<'_, '_>, name: &[u8], input: &Wire) -> Result<Plan, AllocError>
+pub fn writes(
+    alloc: Global,
+    here: &Here<'_, '_>,
+    name: &[u8],
+    input: &Wire,
+) -> Result<Plan, AllocError>
     ensures { IfOk result (λ plan. (h : effects.Here) → IsHere here.now h → plan ≡ spec.writes h name.now input.now) }
 {
     let wires = here.outer();

@@ -224,7 +224,12 @@ fn by_inputs(
 }
 
 /// A `newref` refers to its input.
-fn by_newref(alloc: Global, here: &Here<'_, '_>, line: u32, inputs: &[Wire]) -> Result<Plan, AllocError>
+fn by_newref(
+    alloc: Global,
+    here: &Here<'_, '_>,
+    line: u32,
+    inputs: &[Wire],
+) -> Result<Plan, AllocError>
     ensures { IfOk result (λ plan. (h : effects.Here) → IsHere here.now h → plan ≡ spec.makes h line (input_at (map (value_on h.outer) inputs.now) 0)) }
 {
     let wires = here.outer();
