@@ -1,0 +1,5 @@
+pub mod Needs
+pub mod Replays
+pub mod Runs
+pub mod Scans
+pub mod Texts
