@@ -2,4 +2,3 @@ pub mod Needs
 pub mod Replays
 pub mod Runs
 pub mod Scans
-pub mod Texts

@@ -1,11 +1,9 @@
-//! Whole runs: a run until nothing can fire, the replay of a trace, and what is written of a state.
+//! Whole runs: a run until nothing can fire, and the replay of a trace.
 #![tactic(auto)]
 
-mod ends;
 mod replayed;
-mod whole;
 mod scan;
-mod waiting;
+mod whole;
 
 pub use replayed::{Replayed, replay};
 pub use whole::{Ran, run};

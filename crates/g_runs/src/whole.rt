@@ -7,11 +7,12 @@ ghost use Rattle.g_program.specs.Tables.{IsTableOf};
 ghost use Rattle.g_runs.specs.Needs.{Lasts, RunNeeds};
 ghost use Rattle.g_runs.specs.Runs.{Goes, HasRun};
 
-use crate::ends::end_of;
+
 use crate::scan::find;
 use g_firing::fire;
 use g_frames::{End, Firing, Trace};
 use g_program::ProgramTables;
+use g_run_ends::end_of;
 use g_start::start;
 use g_states::FireState;
 use g_values::ValueList;
@@ -51,7 +52,7 @@ fn ended(
     requires { (p : Program) × (IsTableOf p tables.now × Lasts p state) }
     ensures { IfOk result (λ ran. (ran.trace ≡ trace.items) × ((ran.state ≡ state) × ((p : Program) → IsTableOf p tables.now → ran.end ≡ spec.end_of p state))) }
 {
-    let end = end_of(alloc, &state, tables)?;
+    let end = end_of(alloc, tables, &state)?;
     let trace = Trace::from_vec(trace);
     Ok(Ran { trace, state, end })
 }

@@ -1,4 +1,4 @@
-use Rattle.std.proofs.Common.{◌≡◌, ◌×◌, drop}
+use Rattle.std.proofs.Common.{◌≡◌, drop}
 use Rattle.g_frames.specs.Program.{Program}
 use Rattle.g_frames.specs.State.{start}
 use Rattle.g_frames.specs.Run.{after, after_from, first_refused}

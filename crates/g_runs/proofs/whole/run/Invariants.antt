@@ -1,4 +1,4 @@
-use Rattle.std.proofs.Common.{◌≡◌, ◌×◌, length, Some}
+use Rattle.std.proofs.Common.{◌≡◌, length, Some}
 use Rattle.g_frames.specs.Program.{Program}
 use Rattle.g_frames.specs.Run.{after}
 use Rattle.g_program.specs.Tables.{IsTableOf}
