@@ -1,5 +1,5 @@
 -- What a search for a node that can fire comes to.
-use Rattle.std.proofs.Common.{◌≡◌, Bool, true, false, ◌||◌, ℕ, zero, suc, ◌+◌, ◌<◌, List, [], ◌∷◌, map, drop, Option, Some, None, refl, ap, ◌∙◌, sym, arith}
+use Rattle.std.proofs.Common.{◌≡◌, Bool, true, false, ◌||◌, ℕ, zero, suc, ◌+◌, ◌<◌, ◌≤◌, List, [], ◌∷◌, map, drop, Option, Some, None, refl, ap, ◌∙◌, sym, arith}
 use Rattle.std.specs.Prelude.{not, nat_lt}
 use Rattle.std.specs.List.{list_any}
 use Rattle.std.specs.Option.{option_map_or}
@@ -22,13 +22,21 @@ pub any_next : (test : Option ℕ → Bool) (k n i : ℕ) → i < n
 any_next test k zero i lt = absurd (omega (arith, lt))
 any_next test k (suc n) zero lt = ap (λ m. test (Some m) || list_any test (map Some (from_to (suc k) n))) (omega arith)
 any_next test k (suc n) (suc i) lt =
-    any_next test (suc k) n i (omega (arith, lt)) ∙ ap (λ m. test (Some m) || list_any test (map Some (drop (i + 1) (from_to (suc k) n)))) (omega arith)
+    any_next test (suc k) n i (omega (arith, lt))
+    ∙ (let m : suc k + i ≡ k + suc i = omega arith in ap (λ m. test (Some m) || list_any test (map Some (drop (i + 1) (from_to (suc k) n)))) m)
+    ∙ (let j : suc (i + 1) ≡ suc i + 1 = omega arith in ap (λ j. test (Some (k + suc i)) || list_any test (map Some (drop j (from_to k (suc n))))) j)
 
-pub none_left : (test : Option ℕ → Bool) (k n i : ℕ) → (i < n → ⊥) → list_any test (map Some (drop i (from_to k n))) ≡ false
+pub any_at : (test : Option ℕ → Bool) (n i : ℕ) → i < n
+    → list_any test (map Some (drop i (from_to 0 n))) ≡ (test (Some i) || list_any test (map Some (drop (i + 1) (from_to 0 n))))
+any_at test n i lt =
+    any_next test 0 n i lt
+    ∙ (let m : 0 + i ≡ i = omega arith in ap (λ m. test (Some m) || list_any test (map Some (drop (i + 1) (from_to 0 n)))) m)
+
+pub none_left : (test : Option ℕ → Bool) (k n i : ℕ) → n ≤ i → list_any test (map Some (drop i (from_to k n))) ≡ false
 none_left test k zero zero ge = refl
 none_left test k zero (suc i) ge = refl
-none_left test k (suc n) zero ge = absurd (ge (omega arith))
-none_left test k (suc n) (suc i) ge = none_left test (suc k) n i (λ lt. ge (omega (arith, lt)))
+none_left test k (suc n) zero ge = absurd (omega (arith, ge))
+none_left test k (suc n) (suc i) ge = none_left test (suc k) n i (omega (arith, ge))
 
 -- ---- nodes of a frame
 

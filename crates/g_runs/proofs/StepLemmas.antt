@@ -1,5 +1,6 @@
 -- Runs, firing by firing.
-use Rattle.std.proofs.Common.{◌≡◌, ℕ, suc, ◌+◌, ◌<◌, true, false, List, [], ◌∷◌, ◌++◌, drop, length, Option, Some, refl, ap, ◌∙◌, sym, arith}
+use Rattle.std.proofs.Common.{◌≡◌, ℕ, suc, ◌+◌, ◌<◌, true, false, List, [], ◌∷◌, ◌++◌, drop, drop-cons, get_or, length, Option, Some, None, refl, ap, ◌∙◌, sym, arith}
+use Rattle.std.specs.Prelude.{slice_index_or}
 use Rattle.std.specs.Option.{option_and_then}
 use Rattle.g_values.specs.declared.value.Value.{Value}
 use Rattle.g_frames.specs.declared.firing.Firing.{Firing}
@@ -9,10 +10,10 @@ use Rattle.g_frames.specs.State as state
 use Rattle.g_frames.specs.State.{FireState}
 use Rattle.g_frames.specs.Fire.{can_fire, fire}
 use Rattle.g_frames.specs.Run.{after, after_from, end_of, first_refused, go_on, is_at_rest, refusing}
-use Rattle.g_frames.proofs.RunLemmas.{composes}
+use Rattle.g_frames.proofs.RunLemmas.{composes, some_is}
 use Rattle.g_frames.proofs.RestLemmas.{rest_refuses}
 use Rattle.g_runs.specs.Needs.{HasAllNeeds, Lasts, RunNeeds}
-use Rattle.g_runs.specs.Runs.{HasRun}
+use Rattle.g_runs.specs.Runs.{Goes, HasRun}
 
 pub starts : (p : Program) (controls : List Value) (limit : ℕ) (s : FireState) → RunNeeds p controls limit → s ≡ state.start p controls limit → Lasts p s
 starts p controls limit s n e trace t h = n.firings trace t (ap (after_from p trace) (sym e) ∙ h)
@@ -40,6 +41,22 @@ has_run p controls limit trace xs s t end after_it rest same stays ends = record
   ends = ends ∙ ap (end_of p) (sym stays);
 }
 
+pub lasts_same : (p : Program) (s new : FireState) → new ≡ s → Lasts p s → Lasts p new
+lasts_same p s new e n trace t h = n trace t (ap (after_from p trace) (sym e) ∙ h)
+
+pub rested : (p : Program) (s : FireState) (r : Option Firing) (new : FireState) → r ≡ None → Goes p s r new → (is_at_rest p s ≡ true) × (new ≡ s)
+rested p s None new is g = g
+rested p s (Some x) new is g = absurd cc
+
+pub went : (p : Program) (s : FireState) (r : Option Firing) (x : Firing) (new : FireState) → r ≡ Some x → Goes p s r new → (can_fire p s x ≡ true) × (new ≡ fire p s x)
+went p s None x new is g = absurd cc
+went p s (Some y) x new is g =
+    let e = some_is y x is in (ap (can_fire p s) (sym e) ∙ g.0, g.1 ∙ ap (fire p s) e)
+
+pub longer : (xs : List Firing) (x : Firing) → length (xs ++ x ∷ []) ≡ length xs + 1
+longer [] x = omega arith
+longer (y ∷ xs) x = ap suc (longer xs x) ∙ omega arith
+
 -- ---- a firing of a trace
 
 pub goes_after : (p : Program) (trace rest : List Firing) (s : FireState) (x : Firing) (new : FireState) → trace ≡ x ∷ rest → can_fire p s x ≡ true → new ≡ fire p s x
@@ -58,3 +75,6 @@ refused_after p k trace rest s x new e can is =
 pub refused_here : (p : Program) (k : ℕ) (trace rest : List Firing) (s : FireState) (x : Firing) → trace ≡ x ∷ rest → can_fire p s x ≡ false → first_refused p k trace s ≡ Some k
 refused_here p k trace rest s x e can =
     ap (λ xs. first_refused p k xs s) e ∙ ap (λ b. refusing b k (first_refused p (suc k) rest) (fire p s x)) can
+
+pub drop_at : (xs : List Firing) (i : ℕ) (d : Firing) → i < length xs → drop i xs ≡ slice_index_or xs i d ∷ drop (i + 1) xs
+drop_at xs i d lt = drop-cons xs i d lt ∙ (let e : suc i ≡ i + 1 = omega arith in ap (λ n. get_or xs i d ∷ drop n xs) e)

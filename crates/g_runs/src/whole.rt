@@ -35,11 +35,13 @@ fn next(
     requires { (p : Program) × (IsTableOf p tables.now × Lasts p state.old) }
     ensures { IfOk result (λ fired. (p : Program) → IsTableOf p tables.now → Goes p state.old fired state.new) }
 {
-    let Some(firing) = find(alloc, state, tables, state.has_room())? else {
-        return Ok(None);
-    };
-    let _is_fired = fire(alloc, state, tables, firing)?;
-    Ok(Some(firing))
+    match find(alloc, state, tables, state.has_room())? {
+        Some(firing) => {
+            let _is_fired = fire(alloc, state, tables, firing)?;
+            Ok(Some(firing))
+        }
+        None => Ok(None),
+    }
 }
 
 /// The run that came to a state in which nothing can fire.

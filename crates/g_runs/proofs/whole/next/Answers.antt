@@ -6,9 +6,9 @@ use Rattle.g_runs.proofs.whole.next.Goals as goal
 pub find-requires : goal.find-requires
 find-requires c = let r = c.requires in (r.0, (r.1.0, lasts_here r.0 c.args.state.now r.1.1))
 
-pub returns-in_default : goal.returns-in_default
-returns-in_default c = λ p are.
-    (rests p c.has_room.result c.args.state.now c.in_ok-firing.field-0 c.has_room.ensures (c.in_ok-firing.ensures p are) ?, refl)
+pub returns-in-None : goal.returns-in-None
+returns-in-None c = λ p are.
+    (rests p c.has_room.result c.args.state.now c.in_ok-find.field-0 c.has_room.ensures (c.in_ok-find.ensures p are) c.in-None.is, refl)
 
 pub fire-requires : goal.fire-requires
 fire-requires c =

@@ -7,4 +7,4 @@ use Rattle.g_runs.proofs.whole.run.Given as goal
 
 abbrev pub invariant-loop : goal.invariant-loop
 invariant-loop l =
-    ((p : Program) × (IsTableOf p l.tables × Lasts p l.state)) × (((p : Program) → IsTableOf p l.tables → after p l.fn.controls l.fn.limit l.trace.items ≡ Some l.state) × (length l.trace.items ≡ l.index))
+    ((p : Program) × (IsTableOf p l.tables × Lasts p l.state)) × (((p : Program) → IsTableOf p l.tables → after p l.fn.controls l.fn.limit l.trace.items ≡ Some l.state) × (length l.trace.items ≡ l.counter))
