@@ -4,9 +4,9 @@ use Rattle.g_values.specs.declared.value.Value.{Value}
 use Rattle.g_frames.specs.declared.firing.Firing.{Firing}
 use Rattle.g_frames.specs.declared.state.End.{End}
 use Rattle.g_frames.specs.Program.{Program}
-use Rattle.g_frames.specs.State.{FireState, start}
+use Rattle.g_frames.specs.State.{FireState}
 use Rattle.g_frames.specs.Fire.{can_fire, fire}
-use Rattle.g_frames.specs.Run.{after, end_of, first_refused, is_at_rest, IsAtRest}
+use Rattle.g_frames.specs.Run.{after, end_of, is_at_rest, IsAtRest}
 
 -- a run from the start until nothing can fire
 pub record HasRun (p : Program) (controls : List Value) (limit : ℕ) (trace : List Firing) (s : FireState) (end : End) : Type 0 where

@@ -1,12 +1,12 @@
 -- The search for a node that can fire, where the limit leaves room for an iteration or not.
-use Rattle.std.specs.Prelude.{◌≡◌, ℕ, Bool, true, false, List, Option, Some, None, is_some, map, filter}
+use Rattle.std.specs.Prelude.{◌≡◌, ℕ, Bool, true, false, Option, Some, None, is_some}
 use Rattle.std.specs.List.{list_any}
 use Rattle.g_diagram.specs.Lines.{Entry}
 use Rattle.g_frames.specs.declared.firing.Firing.{Firing}
 use Rattle.g_frames.specs.Program.{Program}
 use Rattle.g_frames.specs.State.{FireState}
 use Rattle.g_frames.specs.Fire.{effect_with}
-use Rattle.g_frames.specs.Run.{Standing, choices_of, firing, is_waiting}
+use Rattle.g_frames.specs.Run.{Standing, choices_of, firing}
 
 abbrev pub fires_with : Program → (has_room : Bool) → FireState → (frame line : ℕ) → (choice : Option ℕ) → Bool
 fires_with p has_room s k l choice = is_some (effect_with p has_room s (firing k l choice))

@@ -95,7 +95,15 @@ pub(crate) fn find_on_line(
         return Ok(Some(firing));
     }
     let count = clone_choices(state, tables, &entry.kind);
-    find_clone(alloc, state, tables, has_room, frame, entry.line as u64, count)
+    find_clone(
+        alloc,
+        state,
+        tables,
+        has_room,
+        frame,
+        entry.line as u64,
+        count,
+    )
 }
 
 /// A firing of one of some nodes of a frame that can be done, where there is any.

@@ -7,7 +7,6 @@ ghost use Rattle.g_program.specs.Tables.{IsTableOf};
 ghost use Rattle.g_runs.specs.Needs.{Lasts, RunNeeds};
 ghost use Rattle.g_runs.specs.Runs.{Goes, HasRun};
 
-
 use crate::scan::find;
 use g_firing::fire;
 use g_frames::{End, Firing, Trace};

@@ -13,10 +13,11 @@ pub returns-then-branch : goal.returns-then-branch
 returns-then-branch c = λ p are.
     let test : Option ℕ → Bool = fires_with p c.args.has_room c.args.state.now c.args.frame c.args.node in
     let i : ℕ = c.loop-clone.clone in
-    let fires : test (Some i) ≡ true = sym (c.in_ok-can_fire.ensures p are) ∙ c.if-branch.true in
-    (sym (c.loop-clone.invariant p are) ∙ any_at test c.args.count i c.loop-clone-test.true
-    ∙ or_left (test (Some i)) (list_any test (map Some (drop (i + 1) (from_to 0 c.args.count)))) fires,
-    fires)
+    let fires : test (Some i) ≡ true = sym (c.in_ok-can_fire.ensures p are) ∙ c.if-branch.true in (
+      sym (c.loop-clone.invariant p are) ∙ any_at test c.args.count i c.loop-clone-test.true
+          ∙ or_left (test (Some i)) (list_any test (map Some (drop (i + 1) (from_to 0 c.args.count)))) fires,
+      fires,
+    )
 
 pub loop-clone-preserved : goal.loop-clone-preserved
 loop-clone-preserved c = λ p are.

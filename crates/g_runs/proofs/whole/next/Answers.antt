@@ -8,7 +8,7 @@ find-requires c = let r = c.requires in (r.0, (r.1.0, lasts_here r.0 c.args.stat
 
 pub returns-in-None : goal.returns-in-None
 returns-in-None c = λ p are.
-    (rests p c.has_room.result c.args.state.now c.in_ok-find.field-0 c.has_room.ensures (c.in_ok-find.ensures p are) c.in-None.is, refl)
+    (rests p c.has_room.result c.args.state.now c.in_ok-firing.field-0 c.has_room.ensures (c.in_ok-firing.ensures p are) c.in-None.is, refl)
 
 pub fire-requires : goal.fire-requires
 fire-requires c =
