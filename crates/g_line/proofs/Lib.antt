@@ -1,3 +1,4 @@
 pub mod Cuts
 pub mod Arguments
 pub mod Stops
+pub mod Runs

@@ -1,33 +1,32 @@
 -- The line that words have, and where words stop being one.
-use Rattle.std.proofs.Common.{◌≡◌, ◌≢◌, ℕ, zero, suc, ◌+◌, ◌-◌, ◌<◌, ◌≤◌, true, false, List, [], ◌∷◌, ◌++◌, length, take, drop, map, Some, refl, sym, ap, ◌∙◌, subst, codes, arith}
+use Rattle.std.proofs.Common.{◌≡◌, ◌≢◌, ℕ, ◌-◌, ◌<◌, ◌≤◌, true, false, List, [], ◌∷◌, length, take, drop, Some, refl, sym, ap, ◌∙◌, subst, codes, arith}
 use Rattle.std.specs.Prelude.{slice_get, get_or, Option, None, Result, Ok, Err, IfErr, IsErrAnd}
 use Rattle.std.specs.List.{flat_map}
-use Rattle.std.proofs.lemmas.List.{append-nil, take_all, take-append-drop}
+use Rattle.std.proofs.lemmas.List.{take-append-drop}
 use Rattle.g_types.specs.Names.{is_word}
-use Rattle.g_line.specs.declared.forms.Setting.{Setting}
 use Rattle.g_line.specs.declared.forms.Line.{Line}
 use Rattle.g_line.specs.declared.forms.Line.TheVariants.{Run, Check, Print}
-use Rattle.g_line.specs.Forms.{Word, setting_word, Sets, argument_words, settings_of, HasLine}
+use Rattle.g_line.specs.Forms.{Word, argument_words, settings_of, limits_of, limit_of, IsRun, HasLine}
 use Rattle.g_line.specs.declared.forms.LineRefused.{LineRefused}
 use Rattle.g_line.specs.declared.forms.LineRefused.TheVariants.{Usage, Memory}
 use Rattle.g_line.specs.Usage.{BeginsLine, IsOnlyLine, IsFirstWrong, IsRefusal}
-use Rattle.g_line.specs.Reading.{OnUsage, AreSettings, IsFirstOther, IsMain}
-use Rattle.g_line.proofs.Arguments.{settings_of-map, setting_at, same_arguments}
+use Rattle.g_line.specs.Reading.{OnUsage, IsMain}
+use Rattle.g_line.proofs.Arguments.{same_arguments}
 
 -- the command that a line begins with
 abbrev pub command_of : Line → Word
-command_of (Run main settings) = codes "run"
+command_of (Run main settings limit) = codes "run"
 command_of (Check main) = codes "check"
 command_of Print = codes "print"
 
 first_word : (words : List Word) (line : Line) → HasLine words line → slice_get words 0 ≡ Some (command_of line)
-first_word words (Run main settings) h = ap (λ w. slice_get w 0) h.1.written
+first_word words (Run main settings limit) h = ap (λ w. slice_get w 0) h.1.written
 first_word words (Check main) h = ap (λ w. slice_get w 0) h.written
 first_word words Print h = ap (λ w. slice_get w 0) h
 
 -- a word that is no command
 pub other_command : (w : Word) → w ≢ codes "run" → w ≢ codes "check" → w ≢ codes "print" → (line : Line) → w ≢ command_of line
-other_command w run check print (Run main settings) = run
+other_command w run check print (Run main settings limit) = run
 other_command w run check print (Check main) = check
 other_command w run check print Print = print
 
@@ -36,17 +35,17 @@ abbrev first_byte : Option Word → ℕ
 first_byte None = 0
 first_byte (Some w) = get_or w 0 0
 
-run_no_check : Some (codes "run") ≡ Some (codes "check") → ⊥
+pub run_no_check : Some (codes "run") ≡ Some (codes "check") → ⊥
 run_no_check e = let bytes : 114 ≡ 99 = ap first_byte e in absurd (omega (arith, bytes))
 
-run_no_print : Some (codes "run") ≡ Some (codes "print") → ⊥
+pub run_no_print : Some (codes "run") ≡ Some (codes "print") → ⊥
 run_no_print e = let bytes : 114 ≡ 112 = ap first_byte e in absurd (omega (arith, bytes))
 
 check_no_print : Some (codes "check") ≡ Some (codes "print") → ⊥
 check_no_print e = let bytes : 99 ≡ 112 = ap first_byte e in absurd (omega (arith, bytes))
 
 -- words begin with one command
-one_command : (words : List Word) (line : Line) (c : Word) → HasLine words line → slice_get words 0 ≡ Some c → Some (command_of line) ≡ Some c
+pub one_command : (words : List Word) (line : Line) (c : Word) → HasLine words line → slice_get words 0 ≡ Some c → Some (command_of line) ≡ Some c
 one_command words line c h is = sym (first_word words line h) ∙ is
 
 -- the second word of a line is a name
@@ -54,26 +53,24 @@ abbrev pub HasSecond : List Word → Type 0
 HasSecond words = (main : Word) × (slice_get words 1 ≡ Some main) × (is_word main ≡ true)
 
 second_word : (words : List Word) (line : Line) → slice_get words 0 ≡ Some (codes "run") → HasLine words line → HasSecond words
-second_word words (Run main settings) run h = (main, ap (λ w. slice_get w 1) h.1.written, h.1.main_is_name)
+second_word words (Run main settings limit) run h = (main, ap (λ w. slice_get w 1) h.1.written, h.1.main_is_name)
 second_word words (Check main) run h = absurd (run_no_check (sym (one_command words (Check main) (codes "run") h run)))
 second_word words Print run h = absurd (run_no_print (sym (one_command words Print (codes "run") h run)))
 
 checked_word : (words : List Word) (line : Line) → slice_get words 0 ≡ Some (codes "check") → HasLine words line → HasSecond words
-checked_word words (Run main settings) check h = absurd (run_no_check (one_command words (Run main settings) (codes "check") h check))
+checked_word words (Run main settings limit) check h = absurd (run_no_check (one_command words (Run main settings limit) (codes "check") h check))
 checked_word words (Check main) check h = (main, ap (λ w. slice_get w 1) h.written, h.main_is_name)
 checked_word words Print check h = absurd (check_no_print (sym (one_command words Print (codes "check") h check)))
 
-later_word : (words : List Word) (line : Line) (i : ℕ) (w : Word) → slice_get words 0 ≡ Some (codes "run") → HasLine words line → slice_get words (suc (suc i)) ≡ Some w → (s : Setting) × (is_word s.name ≡ true) × (w ≡ setting_word s)
-later_word words (Run main settings) i w run h e = setting_at h.0 h.1.right i w (sym (ap (λ w. slice_get w (suc (suc i))) h.1.written) ∙ e)
-later_word words (Check main) i w run h e = absurd (run_no_check (sym (one_command words (Check main) (codes "run") h run)))
-later_word words Print i w run h e = absurd (run_no_print (sym (one_command words Print (codes "run") h run)))
-
 -- what begins a line
+alone : IsRun (codes "run" ∷ codes "a" ∷ []) (codes "a") [] 100_000 []
+alone = record { written = refl; main_is_name = refl; right = tt; numbered = tt; once = omega arith; given = refl; limited = refl }
+
 begins_nothing : BeginsLine []
-begins_nothing = (codes "run" ∷ codes "a" ∷ [], Run (codes "a") [], ([], record { written = refl; main_is_name = refl; right = tt; numbered = tt; given = refl }))
+begins_nothing = (codes "run" ∷ codes "a" ∷ [], Run (codes "a") [] 100_000, ([], alone))
 
 begins_command : BeginsLine (codes "run" ∷ [])
-begins_command = (codes "a" ∷ [], Run (codes "a") [], ([], record { written = refl; main_is_name = refl; right = tt; numbered = tt; given = refl }))
+begins_command = (codes "a" ∷ [], Run (codes "a") [] 100_000, ([], alone))
 
 begins_check : BeginsLine (codes "check" ∷ [])
 begins_check = (codes "a" ∷ [], Check (codes "a"), record { written = refl; main_is_name = refl })
@@ -83,7 +80,7 @@ whole : (words : List Word) (k : ℕ) (line : Line) → HasLine words line → B
 whole words k line h = (drop k words, line, subst (λ w. HasLine w line) (sym (take-append-drop k words)) h)
 
 -- the k-th word is the first that no line has there
-stops_at : (words : List Word) (k : ℕ) → 1 ≤ k → k ≤ length words → BeginsLine (take (k - 1) words) → (BeginsLine (take k words) → ⊥) → IsFirstWrong words k
+pub stops_at : (words : List Word) (k : ℕ) → 1 ≤ k → k ≤ length words → BeginsLine (take (k - 1) words) → (BeginsLine (take k words) → ⊥) → IsFirstWrong words k
 stops_at words k some within before never = record {
   first = some;
   last = omega arith;
@@ -132,87 +129,28 @@ stops_second = stops_other (codes "run") begins_command second_word
 pub stops_unnamed : (words : List Word) → slice_get words 0 ≡ Some (codes "check") → ((w : Word) → slice_get words 1 ≡ Some w → is_word w ≡ false) → IsFirstWrong words 2
 stops_unnamed = stops_other (codes "check") begins_check checked_word
 
--- a place of the front of a list
-slice_get-front : (words more : List Word) (at : ℕ) (w : Word) → slice_get words at ≡ Some w → slice_get (take (at + 1) words ++ more) at ≡ Some w
-slice_get-front [] more at w e = absurd cc
-slice_get-front (x ∷ words) more zero w e = e
-slice_get-front (x ∷ words) more (suc at) w e =
-    let one : suc at + 1 ≡ suc (at + 1) = omega arith in
-    ap (λ n. slice_get (take n (x ∷ words) ++ more) (suc at)) one ∙ slice_get-front words more at w e
-
--- the first word of the front of a list
-slice_get-first : (words more : List Word) (at : ℕ) → slice_get words 0 ≡ Some (codes "run") → slice_get (take (at + 1) words ++ more) 0 ≡ Some (codes "run")
-slice_get-first [] more at run = absurd cc
-slice_get-first (x ∷ words) more zero run = run
-slice_get-first (x ∷ words) more (suc at) run =
-    let one : suc at + 1 ≡ suc (at + 1) = omega arith in
-    ap (λ n. slice_get (take n (x ∷ words) ++ more) 0) one ∙ run
-
-some_at : (words : List Word) (at : ℕ) → at < length words → (w : Word) × (slice_get words at ≡ Some w)
-some_at [] at lt = absurd (omega arith)
-some_at (x ∷ words) zero lt = (x, refl)
-some_at (x ∷ words) (suc at) lt = some_at words at (omega arith)
-
-line_of_settings : (words : List Word) (main : Word) (settings : List Setting) → slice_get words 0 ≡ Some (codes "run") → IsMain words main → (n : ℕ) → AreSettings words 2 n settings → HasLine (take n words) (Run main settings)
-line_of_settings [] main settings run m n s = absurd cc
-line_of_settings (a ∷ []) main settings run m n s = let e = m.second in absurd cc
-line_of_settings (a ∷ b ∷ words) main settings run m n s =
-    let e = m.second in
-    let command : a ≡ codes "run" = cc in
-    let second : b ≡ main = cc in (
-      map Sets settings,
-      record {
-        written = s.written ∙ ap (λ (w : Word). w ∷ b ∷ flat_map argument_words (map Sets settings)) command ∙ ap (λ (w : Word). codes "run" ∷ w ∷ flat_map argument_words (map Sets settings)) second;
-        main_is_name = m.name;
-        right = s.right;
-        numbered = s.numbered;
-        given = settings_of-map settings;
-      },
-    )
-
-pub has_line : (words : List Word) (n : ℕ) (main : Word) (settings : List Setting) → slice_get words 0 ≡ Some (codes "run") → IsMain words main → AreSettings words 2 n settings → n ≡ length words → HasLine words (Run main settings)
-has_line words n main settings run m s long = subst (λ w. HasLine w (Run main settings)) (take_all n words (omega arith)) (line_of_settings words main settings run m n s)
-
-pub stops_later : (words : List Word) (k : ℕ) (main : Word) → slice_get words 0 ≡ Some (codes "run") → IsMain words main → IsFirstOther words 2 k → IsFirstWrong words k
-stops_later words k main run m other =
-    let at = other.at in
-    let w = some_at words at other.within in
-    let place : (i : ℕ) × (at ≡ suc (suc i)) = below at other.from in
-    let never : BeginsLine (take (at + 1) words) → ⊥ = (λ (b : BeginsLine (take (at + 1) words)).
-    let front = slice_get-front words b.0 at w.0 w.1 in
-    let first = slice_get-first words b.0 at run in
-    let s = later_word (take (at + 1) words ++ b.0) b.1 place.0 w.0 first b.2 (ap (slice_get (take (at + 1) words ++ b.0)) (sym place.1) ∙ front) in
-    other.other w.0 w.1 s.0 s.1 s.2) in
-    let begins = line_of_settings words main other.settings run m at other.before in
-    let before : BeginsLine (take at words) = ([], Run main other.settings, subst (λ l. HasLine l (Run main other.settings)) (sym (append-nil (take at words))) begins) in
-    let is : at + 1 ≡ k = sym other.is in
-    let less : at ≡ at + 1 - 1 = omega arith in
-    subst (IsFirstWrong words) is (stops_at words (at + 1) (omega arith) (omega (arith, other.within)) (subst (λ n. BeginsLine (take n words)) less before) never)
-  where
-    below : (at : ℕ) → 2 ≤ at → (i : ℕ) × (at ≡ suc (suc i))
-    below zero le = absurd (omega arith)
-    below (suc zero) le = absurd (omega arith)
-    below (suc (suc i)) le = (i, refl)
-
 pub only_line : (words : List Word) (line : Line) → HasLine words line → IsOnlyLine words line
-only_line words (Run main settings) h (Run main' settings') h' =
+only_line words (Run main settings limit) h (Run main' settings' limit') h' =
     let e = sym h'.1.written ∙ h.1.written in
     let mains : main' ≡ main = cc in
     let texts : flat_map argument_words h'.0 ≡ flat_map argument_words h.0 = cc in
     let arguments = same_arguments 3 h'.0 h.0 h'.1.right h.1.right h'.1.numbered h.1.numbered texts in
     let given = ap settings_of arguments in
+    let limits = ap (λ l. limit_of (limits_of l)) arguments in
     let a = h.1.given in
     let b = h'.1.given in
+    let c = h.1.limited in
+    let d = h'.1.limited in
     cc
-only_line words (Run main settings) h (Check main') h' = absurd (run_no_check (sym (one_command words (Check main') (codes "run") h' (first_word words (Run main settings) h))))
-only_line words (Run main settings) h Print h' = absurd (run_no_print (sym (one_command words Print (codes "run") h' (first_word words (Run main settings) h))))
-only_line words (Check main) h (Run main' settings') h' = absurd (run_no_check (one_command words (Run main' settings') (codes "check") h' (first_word words (Check main) h)))
+only_line words (Run main settings limit) h (Check main') h' = absurd (run_no_check (sym (one_command words (Check main') (codes "run") h' (first_word words (Run main settings limit) h))))
+only_line words (Run main settings limit) h Print h' = absurd (run_no_print (sym (one_command words Print (codes "run") h' (first_word words (Run main settings limit) h))))
+only_line words (Check main) h (Run main' settings' limit') h' = absurd (run_no_check (one_command words (Run main' settings' limit') (codes "check") h' (first_word words (Check main) h)))
 only_line words (Check main) h (Check main') h' =
     let e = sym h'.written ∙ h.written in
     let mains : main' ≡ main = cc in
     cc
 only_line words (Check main) h Print h' = absurd (check_no_print (sym (one_command words Print (codes "check") h' (first_word words (Check main) h))))
-only_line words Print h (Run main settings) h' = absurd (run_no_print (one_command words (Run main settings) (codes "print") h' (first_word words Print h)))
+only_line words Print h (Run main settings limit) h' = absurd (run_no_print (one_command words (Run main settings limit) (codes "print") h' (first_word words Print h)))
 only_line words Print h (Check main) h' = absurd (check_no_print (one_command words (Check main) (codes "print") h' (first_word words Print h)))
 only_line words Print h Print h' = refl
 
@@ -237,7 +175,7 @@ stops_check (a ∷ b ∷ c ∷ words) main check m more =
     stops_at (a ∷ b ∷ c ∷ words) 3 (omega arith) (omega arith) ([], Check main, line) (λ begins. never begins.0 begins.1 begins.2)
   where
     never : (end : List Word) (line : Line) → HasLine (a ∷ b ∷ c ∷ end) line → ⊥
-    never end (Run main' settings) h = run_no_check (one_command (a ∷ b ∷ c ∷ end) (Run main' settings) (codes "check") h check)
+    never end (Run main' settings limit) h = run_no_check (one_command (a ∷ b ∷ c ∷ end) (Run main' settings limit) (codes "check") h check)
     never end (Check main') h = let e = h.written in absurd cc
     never end Print h = absurd cc
 
@@ -257,7 +195,7 @@ stops_print (a ∷ b ∷ words) print more =
     stops_at (a ∷ b ∷ words) 2 (omega arith) (omega arith) before (λ begins. never begins.0 begins.1 begins.2)
   where
     never : (end : List Word) (line : Line) → HasLine (a ∷ b ∷ end) line → ⊥
-    never end (Run main settings) h = run_no_print (one_command (a ∷ b ∷ end) (Run main settings) (codes "print") h print)
+    never end (Run main settings limit) h = run_no_print (one_command (a ∷ b ∷ end) (Run main settings limit) (codes "print") h print)
     never end (Check main) h = check_no_print (one_command (a ∷ b ∷ end) (Check main) (codes "print") h print)
     never end Print h = absurd cc
 

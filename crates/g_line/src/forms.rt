@@ -21,11 +21,15 @@ pub struct Setting {
 /// What the words ask for, by one variant a command.
 #[derive(Debug, Drop)]
 pub enum Line {
-    /// `run MAIN` and settings: runs the listing, from the VI of that name.
+    /// `run MAIN` and, in any order, settings and at most one `--iterations N`: runs the listing, from
+    /// the VI of that name.
     Run {
         main: Name,
         /// In the order of the words; a name may stand twice.
         settings: List<Setting>,
+        /// How many iterations of loops the run may begin, from 1 to 4,000,000: N, or 100,000 where the
+        /// words don't say.
+        limit: u32,
     },
     /// `check MAIN` alone: checks the listing by all rules, with the VI of that name as its main one.
     Check {

@@ -1,15 +1,21 @@
 //! Words, read from left to right.
 
-ghost use Rattle.std.specs.Prelude.{◌≡◌, ◌≤◌, IfOk, IfErr, MatchOption, Some, map, slice_get, length, codes};
+ghost use Rattle.std.specs.Prelude.{◌≡◌, ◌≢◌, ◌≤◌, MatchBool, IfOk, IfErr, MatchOption, Some, map, slice_get, length, codes};
 ghost use Rattle.std.specs.String.{string_bytes};
-ghost use Rattle.g_line.specs.Forms.{HasLine};
+ghost use Rattle.g_line.specs.Forms.{HasLine, option_word};
 ghost use Rattle.g_line.specs.Usage.{IsOnlyLine, IsRefusal};
-ghost use Rattle.g_line.specs.Reading.{OnUsage, IsNoSetting, IsSettingOf, AreSettings, IsFirstOther, IsMain, IsNoMain};
+ghost use Rattle.g_line.specs.Reading.{OnUsage, IsNoSetting, IsSettingOf, AreRead, IsNoLimit, IsLimitOf, IsLimitAt, IsNoLimitAt, AreSet, IsMain, IsNoMain};
 
 use crate::forms::{Line, LineRefused, Setting};
 use g_lists::List;
 use g_types::{Bytes, Name, is_name};
 use std::alloc::{AllocError, Global};
+
+/// How many iterations of loops a run may begin at most.
+const MOST_ITERATIONS: u32 = 4_000_000;
+
+/// How many it may begin where the words don't say.
+const USUAL_ITERATIONS: u32 = 100_000;
 
 /// The setting of the word of this number, cut at its first `=`.
 fn read_setting(alloc: Global, number: u64, word: &str) -> Result<Option<Setting>, AllocError>
@@ -30,25 +36,62 @@ fn read_setting(alloc: Global, number: u64, word: &str) -> Result<Option<Setting
     }))
 }
 
-/// The settings that the words from a place on are.
+/// Adds the settings that the words from a place on are, up to the first word that is none; answers the
+/// place of that word, or how many words there are.
 fn read_settings(
     alloc: Global,
     words: &[String],
     first: usize,
-) -> Result<List<Setting>, LineRefused>
+    settings: &mut Vec<Setting>,
+) -> Result<usize, AllocError>
     requires { first ≤ length words.now }
-    ensures read { IfOk result (AreSettings (map string_bytes words.now) first (length words.now)) }
-    ensures refused { IfErr result (OnUsage (IsFirstOther (map string_bytes words.now) first)) }
+    ensures { IfOk result (AreRead (map string_bytes words.now) first settings.old.items settings.new.items) }
 {
-    let mut settings = Vec::new(alloc);
     for at in first..words.len() {
-        let number = at as u64 + 1;
-        let Some(setting) = read_setting(alloc, number, words[at].as_str())? else {
-            return Err(LineRefused::Usage(number));
+        let Some(setting) = read_setting(alloc, at as u64 + 1, words[at].as_str())? else {
+            return Ok(at);
         };
-        settings.push(setting).map_err(AllocError::from)?;
+        settings.push(setting)?;
     }
-    Ok(List::from_vec(settings))
+    Ok(words.len())
+}
+
+/// The number of iterations that a word is.
+fn limit_of(word: &str) -> Option<u32>
+    ensures { MatchOption result (IsNoLimit word.now) (IsLimitOf word.now) }
+{
+    let first = word.as_bytes().first()?;
+    if *first == b'+' {
+        return None;
+    }
+    if word.len() > 10 {
+        return None;
+    }
+    let Ok(limit) = word.parse::<u32>() else {
+        return None;
+    };
+    if limit < 1 {
+        return None;
+    }
+    if limit > MOST_ITERATIONS {
+        return None;
+    }
+    Some(limit)
+}
+
+/// The number of iterations that the word at a place is.
+fn read_limit(words: &[String], at: usize) -> Result<u32, LineRefused>
+    requires { at ≤ length words.now }
+    ensures read { IfOk result (IsLimitAt (map string_bytes words.now) at) }
+    ensures refused { IfErr result (OnUsage (IsNoLimitAt (map string_bytes words.now) at)) }
+{
+    let Some(word) = words.get(at) else {
+        return Err(LineRefused::Usage(at as u64 + 1));
+    };
+    let Some(limit) = limit_of(word.as_str()) else {
+        return Err(LineRefused::Usage(at as u64 + 1));
+    };
+    Ok(limit)
 }
 
 /// The MAIN of a command.
@@ -65,7 +108,48 @@ fn read_main(alloc: Global, words: &[String]) -> Result<Name, LineRefused>
     Ok(Name::from_slice(alloc, main.as_bytes())?)
 }
 
-/// `run MAIN` and settings.
+/// `run MAIN`, settings up to a place with `--iterations`, a number, and further settings.
+fn run_limited(
+    alloc: Global,
+    words: &[String],
+    main: Name,
+    settings: Vec<Setting>,
+    at: usize,
+) -> Result<Line, LineRefused>
+    requires { AreSet (map string_bytes words.now) main settings.items at }
+    ensures has { IfOk result (HasLine (map string_bytes words.now)) }
+    ensures only { IfOk result (IsOnlyLine (map string_bytes words.now)) }
+    ensures refused { IfErr result (IsRefusal (map string_bytes words.now)) }
+{
+    let limit = read_limit(words, at + 1)?;
+    let mut settings = settings;
+    let end = read_settings(alloc, words, at + 2, &mut settings)?;
+    if end < words.len() {
+        return Err(LineRefused::Usage(end as u64 + 1));
+    }
+    Ok(Line::Run {
+        main,
+        settings: List::from_vec(settings),
+        limit,
+    })
+}
+
+/// The word at a place.
+fn word_at(words: &[String], at: usize) -> Option<&str>
+    ensures { MatchOption result (length words.now ≤ at) (λ word. slice_get (map string_bytes words.now) at ≡ Some word.now) }
+{
+    let word = words.get(at)?;
+    Some(word.as_str())
+}
+
+/// Whether the word stands before a number of iterations.
+fn is_option(word: &str) -> bool
+    ensures { MatchBool result (word.now ≡ option_word) (word.now ≢ option_word) }
+{
+    word.as_bytes() == b"--iterations".as_slice()
+}
+
+/// `run MAIN` and arguments.
 fn run(alloc: Global, words: &[String]) -> Result<Line, LineRefused>
     requires { slice_get (map string_bytes words.now) 0 ≡ Some (codes "run") }
     ensures has { IfOk result (HasLine (map string_bytes words.now)) }
@@ -73,8 +157,19 @@ fn run(alloc: Global, words: &[String]) -> Result<Line, LineRefused>
     ensures refused { IfErr result (IsRefusal (map string_bytes words.now)) }
 {
     let main = read_main(alloc, words)?;
-    let settings = read_settings(alloc, words, 2)?;
-    Ok(Line::Run { main, settings })
+    let mut settings = Vec::new(alloc);
+    let end = read_settings(alloc, words, 2, &mut settings)?;
+    let Some(word) = word_at(words, end) else {
+        return Ok(Line::Run {
+            main,
+            settings: List::from_vec(settings),
+            limit: USUAL_ITERATIONS,
+        });
+    };
+    if !is_option(word) {
+        return Err(LineRefused::Usage(end as u64 + 1));
+    }
+    run_limited(alloc, words, main, settings, end)
 }
 
 /// `check MAIN`, which takes no further word.
@@ -153,6 +248,17 @@ mod tests {
             ("run Main a=1 b", 4),
             ("run Main --workers 33", 3),
             ("run Main a=1 =2", 4),
+            ("run Main --iterations", 4),
+            ("run Main a=1 --iterations", 5),
+            ("run Main --iterations 0", 4),
+            ("run Main --iterations 4000001", 4),
+            ("run Main --iterations 00000000001", 4),
+            ("run Main --iterations +1", 4),
+            ("run Main --iterations 1x a=1", 4),
+            ("run Main --iterations 1 --iterations 1", 5),
+            ("run Main --iterations 1 a=1 b", 6),
+            ("run Main --iterations=1", 3),
+            ("check Main --iterations 1", 3),
         ] {
             let words = words_of(alloc, text)?;
             match line(alloc, &words) {
@@ -188,10 +294,16 @@ mod tests {
     fn a_setting_ends_at_its_first_equals_sign(rt: HostRuntime) -> Result<(), Fail> {
         let alloc = rt.alloc();
         let words = words_of(alloc, "run Main a=1 b= a=x=y")?;
-        let Line::Run { main, settings } = &line(alloc, &words)? else {
+        let Line::Run {
+            main,
+            settings,
+            limit,
+        } = &line(alloc, &words)?
+        else {
             assert!(rt; false);
             return Ok(());
         };
+        assert_eq!(rt; *limit, 100_000);
         assert_eq!(rt; main.as_slice(), b"Main".as_slice());
         let wanted: [(u64, &[u8], &[u8]); 3] = [(3, b"a", b"1"), (4, b"b", b""), (5, b"a", b"x=y")];
         assert_eq!(rt; settings.len(), wanted.len());
@@ -199,6 +311,30 @@ mod tests {
             assert_eq!(rt; setting.word, word);
             assert_eq!(rt; setting.name.as_slice(), name);
             assert_eq!(rt; setting.text.as_slice(), text);
+        }
+        Ok(())
+    }
+
+    #[test]
+    fn a_limit_may_stand_among_settings(rt: HostRuntime) -> Result<(), Fail> {
+        let alloc = rt.alloc();
+        for (text, wanted) in [
+            ("run Main a=1 --iterations 0000001000 b=2", 1_000),
+            ("run Main --iterations 4000000 a=1 b=2", 4_000_000),
+            ("run Main a=1 b=2 --iterations 1", 1),
+        ] {
+            let words = words_of(alloc, text)?;
+            let Line::Run {
+                settings,
+                limit,
+                ..
+            } = &line(alloc, &words)?
+            else {
+                assert!(rt; false);
+                return Ok(());
+            };
+            assert_eq!(rt; *limit, wanted);
+            assert_eq!(rt; settings.len(), 2);
         }
         Ok(())
     }

@@ -11,7 +11,7 @@ ghost use Rattle.grun.specs.Answer.{reply};
 
 use crate::answer::{Answer, answer_line, plain};
 use crate::texts::{fixed, numbered};
-use g_fire::Trace;
+use g_frames::Trace;
 use g_io::{ReadRefused, Sink, Source, read_all, write_all_of};
 use g_line::{LineRefused, line};
 use std::alloc::{AllocError, Global};
@@ -97,7 +97,7 @@ pub fn plain_call<S: Source, K: Sink>(
     source: &mut S,
     sink: &mut K,
 ) -> u8
-    requires { (main : Row ℕ) (settings : Row Setting) → HasLine (map string_bytes words.now.items) (Run main settings) → ⊥ }
+    requires { (main : Row ℕ) (settings : Row Setting) (limit : ℕ) → HasLine (map string_bytes words.now.items) (Run main settings limit) → ⊥ }
     ensures source_later { S.faults source.old ≤ S.faults source.new }
     ensures sink_later { K.faults sink.old ≤ K.faults sink.new }
     ensures kept { K.made_with sink.new ≡ K.made_with sink.old }

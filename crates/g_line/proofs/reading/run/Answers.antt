@@ -1,10 +1,13 @@
-use Rattle.std.proofs.Common.{sym, subst, map, length, arith}
+use Rattle.std.proofs.Common.{◌≡◌, ◌≢◌, ◌≤◌, ◌∙◌, Some, map, length, sym, subst, ap, slice_get, arith, rules}
 use Rattle.std.specs.String.{string_bytes}
 use Rattle.std.proofs.lemmas.List.{length-map}
 use Rattle.std.proofs.lemmas.Option.{slice_get_within}
+use Rattle.g_line.specs.declared.forms.Line.TheVariants.{Run}
+use Rattle.g_line.specs.Forms.{HasLine, option_word}
 use Rattle.g_line.specs.Usage.{IsRefusal, IsFirstWrong}
-use Rattle.g_line.specs.Reading.{IsFirstOther, IsNoMain}
-use Rattle.g_line.proofs.Stops.{stops_second, stops_later, has_line, only_line, refusal_at, if_err}
+use Rattle.g_line.specs.Reading.{AreRead, IsNoMain}
+use Rattle.g_line.proofs.Stops.{stops_second, only_line, refusal_at, if_err}
+use Rattle.g_line.proofs.Runs.{has_read, is_set, stops_word}
 use Rattle.g_line.proofs.reading.run.Goals as goal
 
 pub returns-in_err-main-clause-refused : goal.returns-in_err-main-clause-refused
@@ -18,19 +21,34 @@ read_settings-requires c =
     let words = map string_bytes c.args.words.now in
     omega (arith, slice_get_within words 1 c.in_ok-main.main c.in_ok-main.ensures.read.second, length-map c.args.words.now string_bytes)
 
-pub returns-in_err-settings-clause-refused : goal.returns-in_err-settings-clause-refused
-returns-in_err-settings-clause-refused c =
+pub returns-in_default-clause-has : goal.returns-in_default-clause-has
+returns-in_default-clause-has c =
     let words = map string_bytes c.args.words.now in
-    if_err (IsRefusal words) c.from_residual-in_err-settings.result c.in_err-settings.field-0.0 c.from_residual-in_err-settings.ensures.1
-    (refusal_at (IsFirstOther words 2) words c.in_err-settings.field-0.0 (λ k other. stops_later words k c.in_ok-main.main c.requires c.in_ok-main.ensures.read other) c.in_err-settings.ensures.refused)
+    let read = subst (λ l. AreRead words 2 l c.read_settings.new.settings.items c.in_ok-end.end) c.new-settings.ensures.items c.in_ok-end.ensures in
+    let long : length c.args.words.now ≤ c.in_ok-end.end = search rules in
+    subst (λ l. HasLine words (Run c.in_ok-main.main l 100_000)) (sym c.from_vec.ensures)
+    (has_read words c.in_ok-main.main c.read_settings.new.settings.items c.in_ok-end.end c.requires c.in_ok-main.ensures.read read (omega (arith, long, length-map c.args.words.now string_bytes)))
 
-pub returns-clause-has : goal.returns-clause-has
-returns-clause-has c =
+pub returns-in_default-clause-only : goal.returns-in_default-clause-only
+returns-in_default-clause-only c =
     let words = map string_bytes c.args.words.now in
-    has_line words (length c.args.words.now) c.in_ok-main.main c.in_ok-settings.settings c.requires c.in_ok-main.ensures.read c.in_ok-settings.ensures.read (sym (length-map c.args.words.now string_bytes))
+    let read = subst (λ l. AreRead words 2 l c.read_settings.new.settings.items c.in_ok-end.end) c.new-settings.ensures.items c.in_ok-end.ensures in
+    let long : length c.args.words.now ≤ c.in_ok-end.end = search rules in
+    only_line words _ (subst (λ l. HasLine words (Run c.in_ok-main.main l 100_000)) (sym c.from_vec.ensures)
+    (has_read words c.in_ok-main.main c.read_settings.new.settings.items c.in_ok-end.end c.requires c.in_ok-main.ensures.read read (omega (arith, long, length-map c.args.words.now string_bytes))))
 
-pub returns-clause-only : goal.returns-clause-only
-returns-clause-only c =
+pub returns-then-not-is_option-clause-refused : goal.returns-then-not-is_option-clause-refused
+returns-then-not-is_option-clause-refused c =
     let words = map string_bytes c.args.words.now in
-    let line = has_line words (length c.args.words.now) c.in_ok-main.main c.in_ok-settings.settings c.requires c.in_ok-main.ensures.read c.in_ok-settings.ensures.read (sym (length-map c.args.words.now string_bytes)) in
-    only_line words _ line
+    let read = subst (λ l. AreRead words 2 l c.read_settings.new.settings.items c.in_ok-end.end) c.new-settings.ensures.items c.in_ok-end.ensures in
+    let other : c.in-Some.word.now ≢ option_word = search rules in
+    stops_word words c.in_ok-main.main c.read_settings.new.settings.items c.in_ok-end.end c.in-Some.word.now c.requires c.in_ok-main.ensures.read read (search rules) other
+
+pub run_limited-requires : goal.run_limited-requires
+run_limited-requires c =
+    let words = map string_bytes c.args.words.now in
+    let read = subst (λ l. AreRead words 2 l c.read_settings.new.settings.items c.in_ok-end.end) c.new-settings.ensures.items c.in_ok-end.ensures in
+    let same : c.in-Some.word.now ≡ option_word = search rules in
+    let there : slice_get words c.in_ok-end.end ≡ Some c.in-Some.word.now = search rules in
+    let here = there ∙ ap Some same in
+    is_set words c.in_ok-main.main c.read_settings.new.settings.items c.in_ok-end.end c.requires c.in_ok-main.ensures.read read here
