@@ -15,12 +15,12 @@ returns c = (
   (
     refl,
     λ p table.
-      let run = c.in_ok-ran.ensures p table in
-      record {
-        state = c.in_ok-ran.ran.state;
-        allowed = run.after_it;
-        rest = run.rests;
-        shown = ap (λ s. reply s c.in_ok-text.text) (c.status_of.ensures ∙ ap status_of run.ends) ∙ ap (reply (status_of _)) (c.in_ok-text.ensures p table);
-      },
+        let run = c.in_ok-ran.ensures p table in
+        record {
+          state = c.in_ok-ran.ran.state;
+          allowed = run.after_it;
+          rest = run.rests;
+          shown = ap (λ s. reply s c.in_ok-text.text) (c.status_of.ensures ∙ ap status_of run.ends) ∙ ap (reply (status_of _)) (c.in_ok-text.ensures p table);
+        },
   ),
 )
