@@ -2,9 +2,9 @@ pub mod Finding
 pub mod NamesApart
 pub mod Split
 pub mod Giving
+pub mod Unreferred
 pub mod Settled
 pub mod Plain
 pub mod Running
 pub mod Ordered
 pub mod Unique
-pub mod Examples

@@ -1,7 +1,7 @@
 -- The answer to words that are no run: nothing fired.
 use Rattle.std.proofs.Common.{◌≡◌, ℕ, List, Option, None, Some, false, codes, refl, sym, ap, ◌∙◌, true≢false}
 use Rattle.std.proofs.lemmas.Slice.Eq.{bytes_eq-Decides}
-use Rattle.g_fire.specs.declared.firing.Firing.{Firing}
+use Rattle.g_frames.specs.declared.firing.Firing.{Firing}
 use Rattle.g_line.specs.declared.forms.Line.TheVariants.{Run}
 use Rattle.g_line.specs.declared.forms.Setting.{Setting}
 use Rattle.g_line.specs.Forms.{HasLine}

@@ -1,9 +1,10 @@
 -- The answer to words, bytes and the trace of a run: a status and what is written. Its cases stand in the order in which they are looked at.
-use Rattle.std.specs.Prelude.{◌≡◌, ◌≢◌, ℕ, ◌<◌, ◌≤◌, List, [], ◌++◌, length, Option, Some, None, codes}
+use Rattle.std.specs.Prelude.{◌≡◌, ◌≢◌, ℕ, ◌<◌, ◌≤◌, List, [], ◌++◌, length, Option, Some, None, slice_get, codes}
 use Rattle.std.specs.Fmt.{decimal}
 use Rattle.g_values.specs.declared.value.Value.{Value}
 use Rattle.g_diagram.specs.declared.place.Break.{Break}
 use Rattle.g_diagram.specs.declared.hierarchy.Hierarchy.{Hierarchy}
+use Rattle.g_diagram.specs.declared.hierarchy.Vi.{Vi}
 use Rattle.g_diagram.specs.Text.{text_of}
 use Rattle.g_tokens.specs.declared.token.Spot.{Spot}
 use Rattle.g_listing_grammar.specs.Listing.{IsListing}
@@ -17,13 +18,13 @@ use Rattle.g_line.specs.Usage.{IsFirstWrong}
 use Rattle.g_rules_breaks.specs.Breaks.{ListsEach}
 use Rattle.g_rules.specs.Checked.{IsBreak, IsUnbroken}
 use Rattle.g_hier.specs.Outlines.{number_of}
-use Rattle.g_fire_form.specs.Plain.{IsPlain}
-use Rattle.g_fire.specs.declared.firing.Firing.{Firing}
-use Rattle.g_fire.specs.declared.state.FireState.{FireState}
-use Rattle.g_fire.specs.Program.{program}
-use Rattle.g_fire.specs.declared.state.End.TheVariants.{Complete}
-use Rattle.g_fire.specs.Run.{after, IsAtRest, end_of}
-use Rattle.g_fire.specs.Print.{print}
+use Rattle.g_frames.specs.declared.firing.Firing.{Firing}
+use Rattle.g_frames.specs.declared.state.End.{End}
+use Rattle.g_frames.specs.declared.state.End.TheVariants.{Complete, Spent, Stalled, Unfinished}
+use Rattle.g_frames.specs.Program.{Program, IsProgram}
+use Rattle.g_frames.specs.State.{FireState}
+use Rattle.g_frames.specs.Run.{after, IsAtRest, end_of}
+use Rattle.g_frames.specs.Print.{print}
 use Rattle.grun.specs.Texts.{line_of, breaks_text, spot_text}
 use Rattle.grun.specs.Settings.{Named, Give, IsWrongSetting, controls, control_values}
 
@@ -40,27 +41,33 @@ LIMIT = 16_777_216
 
 -- ---- the answer
 
--- a run of the VI of this number with these values of its controls: its trace is allowed and leads to a state in which no node can fire and
--- each was fired; the reply shows that state
-pub record Runs (h : Hierarchy) (main : ℕ) (controls : List Value) (trace : List Firing) (r : Reply) : Type 0 where
+-- the status of a run by its end; a run that is at rest doesn't end unfinished
+abbrev pub status_of : End → ℕ
+status_of Complete = 0
+status_of Stalled = 5
+status_of Spent = 6
+status_of Unfinished = 0
+
+-- a run from the VI of this number on with these values of its controls, which may begin so many iterations: its trace is allowed and leads to
+-- a state in which no node can fire; the reply shows that state and how the run ended in it
+pub record Runs (h : Hierarchy) (main : ℕ) (controls : List Value) (limit : ℕ) (trace : List Firing) (r : Reply) : Type 0 where
+  pub program : Program
+  pub is_program : IsProgram h main program
   pub state : FireState
-  pub allowed : after (program h main) controls trace ≡ Some state
-  pub rest : IsAtRest (program h main) state
-  pub complete : end_of (program h main) state ≡ Complete
-  pub shown : r ≡ reply 0 (print (program h main) state)
+  pub allowed : after program controls limit trace ≡ Some state
+  pub rest : IsAtRest program state
+  pub shown : r ≡ reply (status_of (end_of program state)) (print program state)
 
 -- the answer to a run of a hierarchy
-pub data IsRunAnswer (main : List ℕ) (settings : List Setting) (h : Hierarchy) : Option (List Firing) → Reply → Type 0 where
+pub data IsRunAnswer (main : List ℕ) (settings : List Setting) (limit : ℕ) (h : Hierarchy) : Option (List Firing) → Reply → Type 0 where
   -- rules are broken: the whole list
-  broken : (bs : List Break) → ListsEach (IsBreak h main) bs → bs ≢ [] → IsRunAnswer main settings h None (reply 3 (breaks_text main h.vis bs))
-  -- MAIN has other nodes than those that run
-  other_form : IsUnbroken h main → (IsPlain h (number_of h.vis main) → ⊥) → IsRunAnswer main settings h None (reply 12 (line_of (codes "not built")))
+  broken : (bs : List Break) → ListsEach (IsBreak h main) bs → bs ≢ [] → IsRunAnswer main settings limit h None (reply 3 (breaks_text main h.vis bs))
   -- a setting names no control, or one that was named before, or spells no value of its type
-  control : (plain : IsPlain h (number_of h.vis main)) (s : Setting) → IsUnbroken h main → IsWrongSetting (controls plain.vi.panel) settings s
-      → IsRunAnswer main settings h None (reply 4 (line_of (codes "control at word " ++ decimal s.word)))
+  control : (vi : Vi) (s : Setting) → IsUnbroken h main → slice_get h.vis (number_of h.vis main) ≡ Some vi → IsWrongSetting (controls vi.panel) settings s
+      → IsRunAnswer main settings limit h None (reply 4 (line_of (codes "control at word " ++ decimal s.word)))
   -- a run
-  ran : (plain : IsPlain h (number_of h.vis main)) (values : Named Value) (trace : List Firing) (r : Reply) → IsUnbroken h main → Give (controls plain.vi.panel) [] settings values
-      → Runs h (number_of h.vis main) (control_values plain.vi.panel values) trace r → IsRunAnswer main settings h (Some trace) r
+  ran : (vi : Vi) (values : Named Value) (trace : List Firing) (r : Reply) → IsUnbroken h main → slice_get h.vis (number_of h.vis main) ≡ Some vi → Give (controls vi.panel) [] settings values
+      → Runs h (number_of h.vis main) (control_values vi.panel values) limit trace r → IsRunAnswer main settings limit h (Some trace) r
 
 -- the answer to words and bytes
 pub data IsAnswer (words : List (List ℕ)) (bytes : List ℕ) : Option (List Firing) → Reply → Type 0 where
@@ -77,7 +84,7 @@ pub data IsAnswer (words : List (List ℕ)) (bytes : List ℕ) : Option (List Fi
       → IsAnswer words bytes None (reply 3 (breaks_text main h.vis bs))
   checked_ok : (main : List ℕ) (h : Hierarchy) → HasLine words (Check main) → length bytes ≤ LIMIT → IsListing bytes h → IsUnbroken h main → IsAnswer words bytes None (reply 0 (line_of (codes "ok")))
   -- they are one, which is run
-  runs : (main : List ℕ) (settings : List Setting) (limit : ℕ) (h : Hierarchy) (trace : Option (List Firing)) (r : Reply) → HasLine words (Run main settings limit) → length bytes ≤ LIMIT → IsListing bytes h → IsRunAnswer main settings h trace r
+  runs : (main : List ℕ) (settings : List Setting) (limit : ℕ) (h : Hierarchy) (trace : Option (List Firing)) (r : Reply) → HasLine words (Run main settings limit) → length bytes ≤ LIMIT → IsListing bytes h → IsRunAnswer main settings limit h trace r
       → IsAnswer words bytes trace r
 
 -- an answer is one: for the same words, bytes and trace no two replies are right

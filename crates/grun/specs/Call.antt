@@ -3,7 +3,7 @@ use Rattle.std.specs.Prelude.{◌≡◌, ℕ, ◌<◌, ◌==◌, Bool, false, �
 use Rattle.std.specs.Fmt.{decimal}
 use Rattle.std.specs.Io.KnownBytes.{Appends, Keeps}
 use Rattle.g_io.specs.Causes.{Rose}
-use Rattle.g_fire.specs.declared.firing.Firing.{Firing}
+use Rattle.g_frames.specs.declared.firing.Firing.{Firing}
 use Rattle.g_line.specs.declared.forms.Line.{Line}
 use Rattle.g_line.specs.Forms.{HasLine}
 use Rattle.grun.specs.Texts.{line_of}
@@ -30,7 +30,7 @@ begins_run (word ∷ words) = bytes_eq word (codes "run")
 
 -- the statuses that say that the input was read to its end
 abbrev pub has_read : ℕ → Bool
-has_read n = (n == 0) || ((n == 2) || ((n == 3) || ((n == 4) || (n == 12))))
+has_read n = (n == 0) || ((n == 2) || ((n == 3) || ((n == 4) || ((n == 5) || (n == 6)))))
 
 -- what is answered: the answer, or, to words that have a line, that the source failed, whose count rose
 pub data Found (words : List (List ℕ)) (left : Option (List ℕ)) (source_old source_new : ℕ) (trace : Option (List Firing)) (r : Reply) : Type 0 where

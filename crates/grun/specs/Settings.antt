@@ -3,13 +3,11 @@
 use Rattle.std.specs.Prelude.{◌≡◌, ℕ, List, [], ◌∷◌, ◌++◌, bytes_eq, Option, Some, None, if◌then◌else◌}
 use Rattle.g_types.specs.declared.ty.Ty.{Ty}
 use Rattle.g_values.specs.declared.value.Value.{Value}
-use Rattle.g_values.specs.Default.{default}
-use Rattle.g_literals.specs.Values.{literal_value}
 use Rattle.g_valtext.specs.Spellings.{IsSpelling}
-use Rattle.g_diagram.specs.declared.panel.Lit.{Lit}
 use Rattle.g_diagram.specs.declared.panel.PanelItem.{PanelItem}
 use Rattle.g_diagram.specs.declared.panel.PanelItem.TheVariants.{Control, Indicator}
 use Rattle.g_line.specs.declared.forms.Setting.{Setting}
+use Rattle.g_frames.specs.Panels.{default_of}
 
 -- something for each of some names
 abbrev pub Named : Type 0 → Type 0
@@ -46,17 +44,13 @@ pub record IsWrongSetting (cs : Named Ty) (settings : List Setting) (s : Setting
   pub right : Give cs [] before values
   pub wrong : (others : Named Value) → Give cs [] (before ++ s ∷ []) others → ⊥
 
--- the value of a control that no setting names: the literal that stands on its line, else the default of its type
-abbrev pub own_value : Ty → Option Lit → Value
-own_value t None = default t
-own_value t (Some literal) = literal_value literal t
-
+-- a control that no setting names has the value of its own
 abbrev pub value_or : (own : Value) → Option Value → Value
 value_or own None = own
 value_or own (Some v) = v
 
 abbrev pub item_values : Named Value → PanelItem → List Value
-item_values values (Control name t required literal out) = value_or (own_value t literal) (find name values) ∷ []
+item_values values (Control name t required literal out) = value_or (default_of literal t) (find name values) ∷ []
 item_values values (Indicator name t input) = []
 
 -- the values of the controls, in listing order

@@ -1,29 +1,42 @@
 //! The answer to a line and a listing.
 
 ghost use Rattle.std.specs.Prelude.{◌≡◌, ◌≤◌, List as Row, ℕ, Some, None, length, slice_get, IfOk, codes};
+ghost use Rattle.std.specs.List.{All};
+ghost use Rattle.g_diagram.specs.declared.hierarchy.Vi.{Vi as TheVi};
+ghost use Rattle.g_frames.specs.Program.{Program};
+ghost use Rattle.g_frames.specs.declared.firing.Firing.{Firing};
+ghost use Rattle.g_hier.specs.Outlines.{number_of};
+ghost use Rattle.g_infer_laws.specs.OwnLines.{HasOwnLines};
 ghost use Rattle.g_line.specs.declared.forms.Line.TheVariants.{Check as CheckLine};
 ghost use Rattle.g_line.specs.Forms.{HasLine};
-ghost use Rattle.g_fire.specs.declared.firing.Firing.{Firing};
-ghost use Rattle.g_fire.specs.Flat.{AreControls};
-ghost use Rattle.g_fire_form.specs.Plain.{IsPlain};
 ghost use Rattle.g_listing_laws.specs.Spelled.{AreSpelled};
 ghost use Rattle.g_listing_grammar.specs.Listing.{IsListing};
-ghost use Rattle.grun.specs.Texts.{line_of, breaks_text};
-ghost use Rattle.grun.specs.Ready.{IsReady};
-ghost use Rattle.grun.specs.Answer.{reply, Runs, IsRunAnswer, IsAnswer, LIMIT as MOST};
+ghost use Rattle.g_program.specs.Tables.{IsTableOf};
+ghost use Rattle.g_runs.specs.Needs.{RunNeeds};
+ghost use Rattle.grun.specs.Texts.{breaks_text};
+ghost use Rattle.grun.specs.Ready.{IsReady, AreSettled, RunsProgram};
+ghost use Rattle.grun.specs.Answer.{reply, status_of, Runs, IsRunAnswer, IsAnswer, LIMIT as MOST};
 
 use crate::settings::{Given, controls, go_through, values};
 use crate::texts::{Names, breaks_text, fixed, numbered, placed};
+use g_accepted::accepted_laws;
 use g_diagram::{Break, Hierarchy, Vi};
-use g_fire::{Trace, run_all, run_laws, state_text};
-use g_fire_form::{is_plain, plain_laws};
+use g_frames::{End, Trace};
 use g_hier::Linked;
+use g_infer::Typed;
+use g_infer_laws::own_lines_laws;
 use g_line::{Line, Setting};
 use g_listing::{ListingRefused, read_listing};
 use g_listing_laws::spelled_laws;
 use g_lists::List;
 use g_print::print_listing;
+use g_program::ProgramTables;
 use g_rules::check::{Checked, check};
+use g_run_ends::print_state;
+use g_run_tables::build::run_tables;
+use g_runs::run as run_all;
+use g_typed_needs::needs_laws;
+use g_typed_states::typed_laws;
 use g_types::{Bytes, Name};
 use g_values::ValueList;
 use std::alloc::{AllocError, Global};
@@ -36,28 +49,55 @@ pub(crate) struct Answer {
     pub trace: Option<Trace>,
 }
 
-/// Runs a hierarchy that keeps all rules and whose main VI is plain. Each of its nodes fires, so the run
-/// is complete.
+/// The status of a run by its end.
+fn status_of(end: End) -> u8
+    ensures { result ≡ status_of end }
+{
+    match end {
+        End::Complete => 0,
+        End::Stalled => 5,
+        End::Spent => 6,
+        End::Unfinished => 0,
+    }
+}
+
+/// Runs a program, and shows the state in which nothing can fire.
+fn run_program(
+    alloc: Global,
+    tables: &ProgramTables<'_>,
+    controls: ValueList,
+    limit: u32,
+) -> Result<Answer, AllocError>
+    requires { (p : Program) × (IsTableOf p tables.now × RunNeeds p controls limit) }
+    ensures { IfOk result (λ answer. (trace : Row Firing) × ((answer.trace ≡ Some trace) × ((p : Program) → IsTableOf p tables.now → RunsProgram p controls limit trace (reply answer.status answer.text)))) }
+{
+    let ran = run_all(alloc, tables, controls, limit)?;
+    let text = print_state(alloc, tables, &ran.state)?;
+    Ok(Answer {
+        status: status_of(ran.end),
+        text,
+        trace: Some(ran.trace),
+    })
+}
+
+/// Runs a hierarchy that keeps all rules, from its main VI on.
 fn run(
     alloc: Global,
     h: &Hierarchy,
     main: &Name,
-    linked: &Linked,
+    found: (&Typed, &Linked),
     controls: ValueList,
+    limit: u32,
 ) -> Result<Answer, AllocError>
-    requires ready { IsReady h.now main.now linked.now.main }
-    requires controls { AreControls h.now linked.now.main controls }
-    ensures { IfOk result (λ answer. (trace : Row Firing) × (answer.trace ≡ Some trace) × Runs h.now linked.now.main controls trace (reply answer.status answer.text)) }
+    requires ready { IsReady h.now main.now found.0.now found.1.now }
+    requires controls { (vi : TheVi) → slice_get h.now.vis found.1.now.main ≡ Some vi → AreSettled vi controls }
+    ensures { IfOk result (λ answer. (trace : Row Firing) × ((answer.trace ≡ Some trace) × Runs h.now (number_of h.now.vis main.now) controls limit trace (reply answer.status answer.text))) }
 {
-    plain_laws();
-    run_laws();
-    let ran = run_all(alloc, h, linked, controls)?;
-    let text = state_text(alloc, h, linked, &ran.state)?;
-    Ok(Answer {
-        status: 0,
-        text,
-        trace: Some(ran.trace),
-    })
+    needs_laws();
+    typed_laws();
+    let (typed, linked) = found;
+    let tables = run_tables(alloc, h, typed, linked)?;
+    run_program(alloc, &tables, controls, limit)
 }
 
 /// An answer for which nothing fired.
@@ -75,44 +115,34 @@ pub(crate) fn plain(status: u8, text: Bytes) -> Answer
 
 /// The main VI.
 fn main_vi(h: &Hierarchy, main: u32) -> &Vi
-    requires { IsPlain h.now main }
+    requires { (vi : TheVi) × (slice_get h.now.vis main ≡ Some vi) }
     ensures { slice_get h.now.vis main ≡ Some result.now }
 {
     &h.vis.as_slice()[main as usize]
 }
 
-/// The answer for settings, where no rule is broken and the main VI is plain.
+/// The answer for settings, where no rule is broken.
 fn answer_settings<'a>(
     alloc: Global,
     h: &'a Hierarchy,
     main: &Name,
-    linked: &Linked,
+    found: (&Typed, &Linked),
     settings: &'a [Setting],
+    limit: u32,
 ) -> Result<Answer, AllocError>
-    requires { IsReady h.now main.now linked.now.main }
-    ensures { IfOk result (λ answer. IsRunAnswer main.now settings.now h.now answer.trace (reply answer.status answer.text)) }
+    requires { IsReady h.now main.now found.0.now found.1.now }
+    ensures { IfOk result (λ answer. IsRunAnswer main.now settings.now limit h.now answer.trace (reply answer.status answer.text)) }
 {
-    let panel = main_vi(h, linked.main).panel.as_slice();
+    let panel = main_vi(h, found.1.main).panel.as_slice();
     let controls = controls(alloc, panel)?;
     match go_through(alloc, &controls, settings)? {
         Given::Wrong(word) => Ok(plain(4, numbered(alloc, b"control at word ", word)?)),
         Given::Right(given) => {
             let values = values(alloc, panel, &given)?;
-            run(
-                alloc,
-                h,
-                main,
-                linked,
-                ValueList::from_list(List::from_vec(values)),
-            )
+            let values = ValueList::from_list(List::from_vec(values));
+            run(alloc, h, main, found, values, limit)
         }
     }
-}
-
-fn not_built(alloc: Global) -> Result<Answer, AllocError>
-    ensures { IfOk result (λ answer. (answer.trace ≡ None) × (reply answer.status answer.text ≡ reply 12 (line_of (codes "not built")))) }
-{
-    Ok(plain(12, fixed(alloc, b"not built")?))
 }
 
 /// The answer that lists breaks.
@@ -131,24 +161,25 @@ fn answer_breaks(
     Ok(plain(3, breaks_text(alloc, &names, breaks)?))
 }
 
-/// The answer to a run of a hierarchy: first the rules, then its form, and then the settings.
+/// The answer to a run of a hierarchy: first the rules, and then the settings.
 fn answer_run(
     alloc: Global,
     h: &Hierarchy,
     main: &Name,
     settings: &[Setting],
+    limit: u32,
 ) -> Result<Answer, AllocError>
-    requires { AreSpelled h.now }
-    ensures { IfOk result (λ answer. IsRunAnswer main.now settings.now h.now answer.trace (reply answer.status answer.text)) }
+    requires spelled { AreSpelled h.now }
+    requires own_lines { All HasOwnLines h.now.vis }
+    ensures { IfOk result (λ answer. IsRunAnswer main.now settings.now limit h.now answer.trace (reply answer.status answer.text)) }
 {
-    let linked = match check(alloc, h, main)? {
-        Checked::Broken(breaks) => return answer_breaks(alloc, h, main, breaks.as_slice()),
-        Checked::Unbroken(_, linked) => linked,
-    };
-    if !is_plain(h, linked.main) {
-        return not_built(alloc);
+    accepted_laws();
+    match check(alloc, h, main)? {
+        Checked::Broken(breaks) => answer_breaks(alloc, h, main, breaks.as_slice()),
+        Checked::Unbroken(typed, linked) => {
+            answer_settings(alloc, h, main, (&typed, &linked), settings, limit)
+        }
     }
-    answer_settings(alloc, h, main, &linked, settings)
 }
 
 /// The answer to a check of a hierarchy.
@@ -174,9 +205,14 @@ pub(crate) fn answer_line(alloc: Global, line: &Line, bytes: &[u8]) -> Result<An
         Err(ListingRefused::Memory(error)) => return Err(error),
     };
     spelled_laws();
+    own_lines_laws();
     match line {
         Line::Check { main } => answer_check(alloc, &h, main),
         Line::Print => Ok(plain(0, print_listing(alloc, &h)?)),
-        Line::Run { main, settings, .. } => answer_run(alloc, &h, main, settings.as_slice()),
+        Line::Run {
+            main,
+            settings,
+            limit,
+        } => answer_run(alloc, &h, main, settings.as_slice(), *limit),
     }
 }

@@ -11,7 +11,7 @@ ghost use Rattle.grun.specs.Answer.{reply};
 
 use crate::answer::{Answer, answer_line, plain};
 use crate::texts::{fixed, numbered};
-use g_fire::Trace;
+use g_frames::Trace;
 use g_io::{ReadRefused, Sink, Source, read_all, write_all_of};
 use g_line::{LineRefused, line};
 use std::alloc::{AllocError, Global};

@@ -4,7 +4,8 @@ ghost use Rattle.std.specs.Prelude.{◌≡◌, ℕ, List as Row, [], ◌∷◌, 
 ghost use Rattle.std.specs.Option.{option_copied};
 ghost use Rattle.g_values.specs.declared.value.Value.{Value as Item};
 ghost use Rattle.g_valtext.specs.Spellings.{IsSpelling};
-ghost use Rattle.grun.specs.Settings.{controls, control_values, find, IsValueFor, item_values, own_value, value_or};
+ghost use Rattle.g_frames.specs.Panels.{default_of};
+ghost use Rattle.grun.specs.Settings.{controls, control_values, find, IsValueFor, item_values, value_or};
 ghost use Rattle.grun.specs.Views.{seen_control, seen_controls, types_in, values_in};
 ghost use Rattle.grun.specs.GivenViews.{Tells};
 
@@ -128,7 +129,7 @@ pub(crate) fn go_through<'a>(
 
 /// The value of a control that no setting names: the literal on its line, or the default of its type.
 fn own_value(alloc: Global, ty: &Ty, literal: Option<&Lit>) -> Result<Value, AllocError>
-    ensures { IfOk result (λ v. v ≡ own_value ty.now (option_copied literal.entry)) }
+    ensures { IfOk result (λ v. v ≡ default_of (option_copied literal.entry) ty.now) }
 {
     match literal {
         Some(literal) => literal_value(alloc, literal, ty),
@@ -142,7 +143,7 @@ fn copy_or_own(
     literal: Option<&Lit>,
     value: Option<&Value>,
 ) -> Result<Value, AllocError>
-    ensures { IfOk result (λ v. v ≡ value_or (own_value ty.now (option_copied literal.entry)) (option_copied value.entry)) }
+    ensures { IfOk result (λ v. v ≡ value_or (default_of (option_copied literal.entry) ty.now) (option_copied value.entry)) }
 {
     match value {
         Some(value) => copy(alloc, value, &mut Copies { n: 0 }),
@@ -158,7 +159,7 @@ fn value_of<'a>(
     ty: &Ty,
     literal: Option<&Lit>,
 ) -> Result<Value, AllocError>
-    ensures { IfOk result (λ v. v ≡ value_or (own_value ty.now (option_copied literal.entry)) (find name.now (values_in given.now.entries))) }
+    ensures { IfOk result (λ v. v ≡ value_or (default_of (option_copied literal.entry) ty.now) (find name.now (values_in given.now.entries))) }
 {
     copy_or_own(alloc, ty, literal, given.get(&name))
 }

@@ -27,14 +27,17 @@ returns-in-Print c words has =
     rw (c.plain-in-Print.ensures.trace, c.plain-in-Print.ensures.status, c.plain-in-Print.ensures.text, c.in_ok-print_listing-in-Print.ensures.text)
     (printed c.in-Ok.h (subst (HasLine words) c.in-Print.is has) c.requires c.in-Ok.ensures.found)
 
-pub answer_run-requires : goal.answer_run-requires
-answer_run-requires c = c.spelled_laws.ensures c.args.bytes.now c.in-Ok.h c.in-Ok.ensures.found
+pub answer_run-requires-clause-spelled : goal.answer_run-requires-clause-spelled
+answer_run-requires-clause-spelled c = c.spelled_laws.ensures c.args.bytes.now c.in-Ok.h c.in-Ok.ensures.found
+
+pub answer_run-requires-clause-own_lines : goal.answer_run-requires-clause-own_lines
+answer_run-requires-clause-own_lines c = c.own_lines_laws.ensures c.args.bytes.now c.in-Ok.h c.in-Ok.ensures.found
 
 pub returns : goal.returns
 returns c =
     IfOk-weaker c.answer_run.result
-    (λ (a : Answer). IsRunAnswer c.in-Run.main c.as_slice.result.now c.in-Ok.h a.trace (reply a.status a.text))
+    (λ (a : Answer). IsRunAnswer c.in-Run.main c.as_slice.result.now c.in-Run.limit c.in-Ok.h a.trace (reply a.status a.text))
     (λ (a : Answer). (words : List (List ℕ)) → HasLine words c.args.line.now → IsAnswer words c.args.bytes.now a.trace (reply a.status a.text))
     (λ a x words has. runs c.in-Run.main c.in-Run.settings c.in-Run.limit c.in-Ok.h a.trace (reply a.status a.text) (subst (HasLine words) c.in-Run.is has) c.requires c.in-Ok.ensures.found
-    (subst (λ (settings : List Setting). IsRunAnswer c.in-Run.main settings c.in-Ok.h a.trace (reply a.status a.text)) c.as_slice.ensures x))
+    (subst (λ (settings : List Setting). IsRunAnswer c.in-Run.main settings c.in-Run.limit c.in-Ok.h a.trace (reply a.status a.text)) c.as_slice.ensures x))
     c.answer_run.ensures

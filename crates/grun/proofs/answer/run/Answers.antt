@@ -1,30 +1,34 @@
-use Rattle.std.proofs.Common.{refl, ap}
-use Rattle.grun.specs.Answer.{reply}
-use Rattle.grun.proofs.Running.{runnable}
+use Rattle.std.proofs.Common.{◌≡◌, List, Some, sym, ap, ◌∙◌}
+use Rattle.std.specs.Prelude.{slice_get}
+use Rattle.std.proofs.lemmas.Result.{IfOk-weaker}
+use Rattle.g_frames.specs.declared.firing.Firing.{Firing}
+use Rattle.g_frames.specs.Program.{Program}
+use Rattle.g_hier.specs.Outlines.{number_of}
+use Rattle.g_program.specs.Tables.{IsTableOf}
+use Rattle.grun.specs.declared.answer.Answer.{Answer}
+use Rattle.grun.specs.Answer.{reply, Runs}
+use Rattle.grun.specs.Ready.{RunsProgram}
+use Rattle.grun.proofs.Running.{are_controls, run_needs, runs_so}
 use Rattle.grun.proofs.answer.run.Goals as goal
 
-pub run_all-requires-clause-form : goal.run_all-requires-clause-form
-run_all-requires-clause-form c = (runnable c.plain_laws.ensures c.args.h.now c.args.main.now c.args.linked.now.main c.requires.ready).flat
-
-pub state_text-requires-clause-form : goal.state_text-requires-clause-form
-state_text-requires-clause-form c = (runnable c.plain_laws.ensures c.args.h.now c.args.main.now c.args.linked.now.main c.requires.ready).flat
-
-pub state_text-requires-clause-reached : goal.state_text-requires-clause-reached
-state_text-requires-clause-reached c = record { controls = c.args.controls; trace = c.in_ok-ran.ran.trace; after_it = c.in_ok-ran.ensures.allowed }
+pub run_program-requires : goal.run_program-requires
+run_program-requires c =
+    let h = c.args.h.now in
+    let ready = c.requires.ready in
+    let number = number_of h.vis c.args.main.now in
+    let found = c.in_ok-tables.ensures.program number ready.links.linked in
+    let stands = ap (slice_get h.vis) (sym ready.links.linked.main_is) ∙ ready.stands in
+    let controls = are_controls h number found.0 found.1.0 ready.vi stands c.args.controls (c.requires.controls ready.vi ready.stands) in
+    (found.0, (found.1.1, run_needs c.needs_laws.ensures.firings c.needs_laws.ensures.starts c.typed_laws.ensures.runs found.0 c.args.controls c.args.limit (ready.accepted found.0 found.1.0) controls))
 
 pub returns : goal.returns
 returns c =
     let h = c.args.h.now in
-    let main = c.args.linked.now.main in
-    let ran = c.in_ok-ran.ran in
-    let runs = runnable c.plain_laws.ensures h c.args.main.now main c.requires.ready in (
-      ran.trace,
-      refl,
-      record {
-        state = ran.state;
-        allowed = c.in_ok-ran.ensures.allowed;
-        rest = c.in_ok-ran.ensures.rest;
-        complete = c.run_laws.ensures.finishes h main runs.flat runs.typed runs.wired c.args.controls ran.trace ran.state c.requires.controls c.in_ok-ran.ensures.allowed c.in_ok-ran.ensures.rest;
-        shown = ap (reply 0) c.in_ok-text.ensures;
-      },
-    )
+    let number = number_of h.vis c.args.main.now in
+    let found = c.in_ok-tables.ensures.program number c.requires.ready.links.linked in
+    let tables = c.in_ok-tables.tables in
+    IfOk-weaker c.run_program.result
+    (λ (a : Answer). (trace : List Firing) × ((a.trace ≡ Some trace) × ((p : Program) → IsTableOf p tables → RunsProgram p c.args.controls c.args.limit trace (reply a.status a.text))))
+    (λ (a : Answer). (trace : List Firing) × ((a.trace ≡ Some trace) × Runs h number c.args.controls c.args.limit trace (reply a.status a.text)))
+    (λ a x. (x.0, (x.1.0, runs_so h number found.0 c.args.controls c.args.limit x.0 (reply a.status a.text) found.1.0 (x.1.1 found.0 found.1.1))))
+    c.run_program.ensures

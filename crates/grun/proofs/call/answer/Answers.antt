@@ -2,7 +2,7 @@
 use Rattle.std.proofs.Common.{ℕ, zero, suc, ◌<◌, List, [], ◌∷◌, length, Option, Some, None, Err, map, refl, ap, sym, subst, ◌++◌, codes, arith}
 use Rattle.std.specs.String.{string_bytes}
 use Rattle.std.specs.Fmt.{decimal}
-use Rattle.g_fire.specs.declared.firing.Firing.{Firing}
+use Rattle.g_frames.specs.declared.firing.Firing.{Firing}
 use Rattle.g_io.specs.Reading.{IsAllOf, IsLonger}
 use Rattle.g_line.specs.declared.forms.Line.{Line}
 use Rattle.g_line.specs.Forms.{HasLine}
