@@ -1,0 +1,97 @@
+//! The body of a structure in place, and what its lines give outside.
+
+ghost use Rattle.std.specs.Prelude.{◌≡◌, ◌+◌, ◌∷◌, [], IfOk};
+ghost use Rattle.std.specs.Option.{option_map_or};
+ghost use Rattle.g_prims_definitions.specs.Arithmetic.{nothing};
+ghost use Rattle.g_border.specs.Lines as border;
+ghost use Rattle.g_border.specs.Lines.{entering};
+ghost use Rattle.g_frames.specs.Effects as effects;
+ghost use Rattle.g_needs.specs.Bodies.{BodyNeeds};
+ghost use Rattle.g_here.specs.Here.{IsHere};
+ghost use Rattle.g_vi_tables.specs.Tables.{reader_at};
+ghost use Rattle.g_wire_values.specs.Wires.{reader};
+ghost use Rattle.g_places.specs.Places.{reader_of, leaving_of};
+
+use g_bodies::body_values;
+use g_crossing::{Entering, Given, Leaving, lines_inside, lines_outside, other_values};
+use g_diagram::Tunnel;
+use g_here::Here;
+use g_lists::List;
+use g_values::Value;
+use std::alloc::{AllocError, Global};
+
+/// A structure in place: its lines from a line on, and the lines of its `do` and its `end`.
+#[derive(Clone, Copy)]
+pub struct Place<'a> {
+    pub first: u32,
+    pub lines: &'a [Tunnel],
+    pub body: u32,
+    pub finish: u32,
+}
+
+/// The values of the sources of a body, by their places.
+pub type BodyValues = List<Option<Value>>;
+
+/// The values of the body's sources where the structure's reference refers to a value, if it has one.
+pub fn values_in<'x>(
+    alloc: Global,
+    here: &Here<'x>,
+    place: &Place<'_>,
+    referred: Option<&'x Value>,
+) -> Result<BodyValues, AllocError>
+    requires { (h : effects.Here) × (IsHere here.now h × BodyNeeds h.vi place.now.body place.now.finish (border.lines_inside (record (entering h.outer) { referred = option_map_or (λ v. v.now) referred nothing }) place.now.first place.now.lines.now)) }
+    ensures { IfOk result (λ values. (h : effects.Here) → IsHere here.now h → reader_at h.vi place.now.body values ≡ reader_of h place.now.first place.now.lines.now place.now.body place.now.finish (option_map_or (λ v. v.now) referred.entry nothing)) }
+{
+    let entering = Entering {
+        outer: here.outer(),
+        before: None,
+        iteration: 0,
+        kept: &[],
+        referred,
+    };
+    let inside = lines_inside(alloc, &entering, place.first, place.lines)?;
+    let values = body_values(alloc, here.table, place.body, place.finish, inside)?;
+    Ok(values)
+}
+
+/// What the structure's lines give outside.
+pub fn outside(
+    alloc: Global,
+    here: &Here<'_>,
+    place: &Place<'_>,
+    values: &BodyValues,
+) -> Result<Given, AllocError>
+    ensures { IfOk result (λ given. (h : effects.Here) → IsHere here.now h → given ≡ border.lines_outside (leaving_of h place.now.body (reader_at h.vi place.now.body values.now)) place.now.first place.now.lines.now) }
+{
+    let inner = [here.table.wires(place.body, values.as_slice())];
+    let leaving = Leaving {
+        outer: here.outer(),
+        inner: &inner,
+        kept: &[],
+        table: here.table,
+        body: place.body,
+    };
+    let given = lines_outside(alloc, &leaving, place.first, place.lines)?;
+    Ok(given)
+}
+
+/// What the lines beside the reference give outside.
+pub fn others(
+    alloc: Global,
+    here: &Here<'_>,
+    place: &Place<'_>,
+    values: &BodyValues,
+) -> Result<List<Value>, AllocError>
+    ensures { IfOk result (λ vs. (h : effects.Here) → IsHere here.now h → vs ≡ border.other_values (leaving_of h place.now.body (reader_at h.vi place.now.body values.now)) place.now.first place.now.lines.now) }
+{
+    let inner = [here.table.wires(place.body, values.as_slice())];
+    let leaving = Leaving {
+        outer: here.outer(),
+        inner: &inner,
+        kept: &[],
+        table: here.table,
+        body: place.body,
+    };
+    let values = other_values(alloc, &leaving, place.first, place.lines)?;
+    Ok(values)
+}
