@@ -27,10 +27,10 @@ leaves h first lines c w r outer inner is kept = record {
   types_are = λ name. refl;
 }
 
-pub enters : (h : Here) (first : ℕ) (lines : List Tunnel) (c : code.Entering) (v : Value) →
-    reader c.outer ≡ h.outer → c.before ≡ None → c.iteration ≡ 0 → c.kept.now ≡ [] → option_map_or (λ v. v.now) c.referred nothing ≡ v →
-    IsEntering first lines c (record (entering h.outer) { referred = v })
-enters h first lines c v outer before iteration kept referred = record {
+pub enters : (r : Reader) (first : ℕ) (lines : List Tunnel) (c : code.Entering) (v : Value) →
+    reader c.outer ≡ r → c.before ≡ None → c.iteration ≡ 0 → c.kept.now ≡ [] → option_map_or (λ v. v.now) c.referred nothing ≡ v →
+    IsEntering first lines c (record (entering r) { referred = v })
+enters r first lines c v outer before iteration kept referred = record {
   outer_is = sym outer;
   before_is = ap (option_map reader) (sym before);
   iteration_is = sym iteration;

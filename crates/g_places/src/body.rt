@@ -6,11 +6,11 @@ ghost use Rattle.g_prims_definitions.specs.Arithmetic.{nothing};
 ghost use Rattle.g_border.specs.Lines as border;
 ghost use Rattle.g_border.specs.Lines.{entering};
 ghost use Rattle.g_frames.specs.Effects as effects;
-ghost use Rattle.g_needs.specs.Bodies.{BodyNeeds};
 ghost use Rattle.g_here.specs.Here.{IsHere};
 ghost use Rattle.g_vi_tables.specs.Tables.{reader_at};
 ghost use Rattle.g_wire_values.specs.Wires.{reader};
-ghost use Rattle.g_places.specs.Places.{reader_of, leaving_of};
+ghost use Rattle.g_border.specs.Readers.{Reader};
+ghost use Rattle.g_places.specs.Places.{IsReady, reader_of, leaving_of};
 
 use g_bodies::body_values;
 use g_crossing::{Entering, Given, Leaving, lines_inside, lines_outside, other_values};
@@ -18,6 +18,7 @@ use g_diagram::Tunnel;
 use g_here::Here;
 use g_lists::List;
 use g_values::Value;
+use g_wire_values::Wires;
 use std::alloc::{AllocError, Global};
 
 /// A structure in place: its lines from a line on, and the lines of its `do` and its `end`.
@@ -32,25 +33,52 @@ pub struct Place<'a> {
 /// The values of the sources of a body, by their places.
 pub type BodyValues = List<Option<Value>>;
 
-/// The values of the body's sources where the structure's reference refers to a value, if it has one.
-pub fn values_in<'x>(
+/// What the structure's lines give inside.
+fn inside<'x>(
     alloc: Global,
-    here: &Here<'x>,
+    outer: Wires<'x>,
     place: &Place<'_>,
     referred: Option<&'x Value>,
-) -> Result<BodyValues, AllocError>
-    requires { (h : effects.Here) × (IsHere here.now h × BodyNeeds h.vi place.now.body place.now.finish (border.lines_inside (record (entering h.outer) { referred = option_map_or (λ v. v.now) referred nothing }) place.now.first place.now.lines.now)) }
-    ensures { IfOk result (λ values. (h : effects.Here) → IsHere here.now h → reader_at h.vi place.now.body values ≡ reader_of h place.now.first place.now.lines.now place.now.body place.now.finish (option_map_or (λ v. v.now) referred.entry nothing)) }
+) -> Result<Given, AllocError>
+    ensures { IfOk result (λ given. (r : Reader) → reader outer.entry ≡ r → given ≡ border.lines_inside (record (entering r) { referred = option_map_or (λ v. v.now) referred.entry nothing }) place.now.first place.now.lines.now) }
 {
     let entering = Entering {
-        outer: here.outer(),
+        outer,
         before: None,
         iteration: 0,
         kept: &[],
         referred,
     };
-    let inside = lines_inside(alloc, &entering, place.first, place.lines)?;
-    let values = body_values(alloc, here.table, place.body, place.finish, inside)?;
+    let given = lines_inside(alloc, &entering, place.first, place.lines)?;
+    Ok(given)
+}
+
+/// The values of the body's sources where the structure has no reference.
+pub fn values_alone(
+    alloc: Global,
+    here: &Here<'_>,
+    place: &Place<'_>,
+) -> Result<BodyValues, AllocError>
+    requires { IsReady here.now place.now nothing }
+    ensures { IfOk result (λ values. (h : effects.Here) → IsHere here.now h → reader_at h.vi place.now.body values ≡ reader_of h place.now.first place.now.lines.now place.now.body place.now.finish nothing) }
+{
+    let given = inside(alloc, here.outer(), place, None)?;
+    let values = body_values(alloc, here.table, place.body, place.finish, given)?;
+    Ok(values)
+}
+
+/// The values of the body's sources where the structure's reference refers to a value.
+pub fn values_by(
+    alloc: Global,
+    here: &Here<'_>,
+    place: &Place<'_>,
+    referred: Value,
+) -> Result<BodyValues, AllocError>
+    requires { IsReady here.now place.now referred }
+    ensures { IfOk result (λ values. (h : effects.Here) → IsHere here.now h → reader_at h.vi place.now.body values ≡ reader_of h place.now.first place.now.lines.now place.now.body place.now.finish referred) }
+{
+    let given = inside(alloc, here.outer(), place, Some(&referred))?;
+    let values = body_values(alloc, here.table, place.body, place.finish, given)?;
     Ok(values)
 }
 

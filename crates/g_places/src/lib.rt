@@ -3,4 +3,6 @@
 #![tactic(auto)]
 
 mod body;
+mod plan;
 
+pub use plan::place_plan;
