@@ -7,7 +7,7 @@ ghost use Rattle.g_border.specs.Lines as border;
 ghost use Rattle.g_border.specs.Lines.{entering};
 ghost use Rattle.g_frames.specs.Effects as effects;
 ghost use Rattle.g_here.specs.Here.{IsHere};
-ghost use Rattle.g_vi_tables.specs.Tables.{reader_at};
+ghost use Rattle.g_vi_tables.specs.Tables.{IsViTable, reader_at};
 ghost use Rattle.g_wire_values.specs.Wires.{reader};
 ghost use Rattle.g_border.specs.Readers.{Reader};
 ghost use Rattle.g_places.specs.Places.{IsReady, reader_of, leaving_of};
@@ -18,6 +18,7 @@ use g_diagram::Tunnel;
 use g_here::Here;
 use g_lists::List;
 use g_values::Value;
+use g_vi_tables::ViTable;
 use g_wire_values::Wires;
 use std::alloc::{AllocError, Global};
 
@@ -53,10 +54,23 @@ fn inside<'x>(
     Ok(given)
 }
 
+/// What they give where the structure's reference refers to a value.
+fn inside_by(
+    alloc: Global,
+    outer: Wires<'_>,
+    place: &Place<'_>,
+    referred: Value,
+) -> Result<Given, AllocError>
+    ensures { IfOk result (λ given. (r : Reader) → reader outer.entry ≡ r → given ≡ border.lines_inside (record (entering r) { referred = referred }) place.now.first place.now.lines.now) }
+{
+    let given = inside(alloc, outer, place, Some(&referred))?;
+    Ok(given)
+}
+
 /// The values of the body's sources where the structure has no reference.
 pub fn values_alone(
     alloc: Global,
-    here: &Here<'_>,
+    here: &Here<'_, '_>,
     place: &Place<'_>,
 ) -> Result<BodyValues, AllocError>
     requires { IsReady here.now place.now nothing }
@@ -70,56 +84,84 @@ pub fn values_alone(
 /// The values of the body's sources where the structure's reference refers to a value.
 pub fn values_by(
     alloc: Global,
-    here: &Here<'_>,
+    here: &Here<'_, '_>,
     place: &Place<'_>,
     referred: Value,
 ) -> Result<BodyValues, AllocError>
     requires { IsReady here.now place.now referred }
     ensures { IfOk result (λ values. (h : effects.Here) → IsHere here.now h → reader_at h.vi place.now.body values ≡ reader_of h place.now.first place.now.lines.now place.now.body place.now.finish referred) }
 {
-    let given = inside(alloc, here.outer(), place, Some(&referred))?;
+    let given = inside_by(alloc, here.outer(), place, referred)?;
     let values = body_values(alloc, here.table, place.body, place.finish, given)?;
     Ok(values)
 }
 
-/// What the structure's lines give outside.
-pub fn outside(
+/// What the structure's lines give outside the body of a VI.
+fn outside_of<'x>(
     alloc: Global,
-    here: &Here<'_>,
+    outer: Wires<'x>,
+    table: &'x ViTable<'_>,
     place: &Place<'_>,
-    values: &BodyValues,
+    values: BodyValues,
 ) -> Result<Given, AllocError>
-    ensures { IfOk result (λ given. (h : effects.Here) → IsHere here.now h → given ≡ border.lines_outside (leaving_of h place.now.body (reader_at h.vi place.now.body values.now)) place.now.first place.now.lines.now) }
+    ensures { IfOk result (λ given. (h : effects.Here) → IsViTable h.vi table.now → reader outer.entry ≡ h.outer → given ≡ border.lines_outside (leaving_of h place.now.body (reader_at h.vi place.now.body values)) place.now.first place.now.lines.now) }
 {
-    let inner = [here.table.wires(place.body, values.as_slice())];
+    let inner = [table.wires(place.body, values.as_slice())];
     let leaving = Leaving {
-        outer: here.outer(),
+        outer,
         inner: &inner,
         kept: &[],
-        table: here.table,
+        table,
         body: place.body,
     };
     let given = lines_outside(alloc, &leaving, place.first, place.lines)?;
     Ok(given)
 }
 
+/// What the structure's lines give outside.
+pub fn outside(
+    alloc: Global,
+    here: &Here<'_, '_>,
+    place: &Place<'_>,
+    values: BodyValues,
+) -> Result<Given, AllocError>
+    ensures { IfOk result (λ given. (h : effects.Here) → IsHere here.now h → given ≡ border.lines_outside (leaving_of h place.now.body (reader_at h.vi place.now.body values)) place.now.first place.now.lines.now) }
+{
+    let given = outside_of(alloc, here.outer(), here.table, place, values)?;
+    Ok(given)
+}
+
+/// What the lines beside the reference give outside the body of a VI.
+fn others_of<'x>(
+    alloc: Global,
+    outer: Wires<'x>,
+    table: &'x ViTable<'_>,
+    place: &Place<'_>,
+    values: BodyValues,
+) -> Result<List<Value>, AllocError>
+    ensures { IfOk result (λ vs. (h : effects.Here) → IsViTable h.vi table.now → reader outer.entry ≡ h.outer → vs ≡ border.other_values (leaving_of h place.now.body (reader_at h.vi place.now.body values)) place.now.first place.now.lines.now) }
+{
+    let inner = [table.wires(place.body, values.as_slice())];
+    let leaving = Leaving {
+        outer,
+        inner: &inner,
+        kept: &[],
+        table,
+        body: place.body,
+    };
+    let given = other_values(alloc, &leaving, place.first, place.lines)?;
+    Ok(given)
+}
+
 /// What the lines beside the reference give outside.
 pub fn others(
     alloc: Global,
-    here: &Here<'_>,
+    here: &Here<'_, '_>,
     place: &Place<'_>,
-    values: &BodyValues,
+    values: BodyValues,
 ) -> Result<List<Value>, AllocError>
-    ensures { IfOk result (λ vs. (h : effects.Here) → IsHere here.now h → vs ≡ border.other_values (leaving_of h place.now.body (reader_at h.vi place.now.body values.now)) place.now.first place.now.lines.now) }
+    ensures { IfOk result (λ vs. (h : effects.Here) → IsHere here.now h → vs ≡ border.other_values (leaving_of h place.now.body (reader_at h.vi place.now.body values)) place.now.first place.now.lines.now) }
 {
-    let inner = [here.table.wires(place.body, values.as_slice())];
-    let leaving = Leaving {
-        outer: here.outer(),
-        inner: &inner,
-        kept: &[],
-        table: here.table,
-        body: place.body,
-    };
-    let values = other_values(alloc, &leaving, place.first, place.lines)?;
-    Ok(values)
+    let given = others_of(alloc, here.outer(), here.table, place, values)?;
+    Ok(given)
 }

@@ -40,19 +40,19 @@ use g_values::{Live, RefValue, Value, ValueList, coerce, default_of};
 use std::alloc::{AllocError, Global};
 
 /// A structure without a reference gives what its lines give.
-fn plain_place(alloc: Global, here: &Here<'_>, place: &Place<'_>) -> Result<Plan, AllocError>
+fn plain_place(alloc: Global, here: &Here<'_, '_>, place: &Place<'_>) -> Result<Plan, AllocError>
     requires { IsReady here.now place.now nothing }
     ensures { IfOk result (λ plan. (h : effects.Here) (e : Node) → IsHere here.now h → place.now.first ≡ e.line + 1 → plan ≡ spec.plain_place h e place.now.lines.now place.now.body place.now.finish) }
 {
     let values = values_alone(alloc, here, place)?;
-    let given = outside(alloc, here, place, &values)?;
+    let given = outside(alloc, here, place, values)?;
     Ok(Plan::Effect(gives(alloc, Advance::Done, given)))
 }
 
 /// The reference as an output, with its place.
 fn same_reference(
     alloc: Global,
-    here: &Here<'_>,
+    here: &Here<'_, '_>,
     reference: &Reference<'_>,
 ) -> Result<(WireSource, Value), AllocError>
     ensures { IfOk result (λ same. (h : effects.Here) → IsHere here.now h → same ≡ (reference.now.same, value_on h.outer reference.now.from.now)) }
@@ -78,7 +78,7 @@ fn places_of(
 /// The reference, what the other lines give, and the code, at their places.
 fn given_with(
     alloc: Global,
-    here: &Here<'_>,
+    here: &Here<'_, '_>,
     place: &Place<'_>,
     reference: &Reference<'_>,
     outputs: List<Value>,
@@ -97,7 +97,7 @@ fn given_with(
 /// By the null reference the default goes in, and nothing comes of the new value.
 fn null_place(
     alloc: Global,
-    here: &Here<'_>,
+    here: &Here<'_, '_>,
     place: &Place<'_>,
     reference: &Reference<'_>,
     elem: &Ty,
@@ -107,7 +107,7 @@ fn null_place(
 {
     let value = default_of(alloc, elem)?;
     let values = values_by(alloc, here, place, value)?;
-    let mut outputs = others(alloc, here, place, &values)?;
+    let mut outputs = others(alloc, here, place, values)?;
     outputs.push(not_live())?;
     let given = given_with(alloc, here, place, reference, outputs)?;
     Ok(Plan::Effect(gives(alloc, Advance::Done, given)))
@@ -116,7 +116,7 @@ fn null_place(
 /// The new value, in the reference's type.
 fn new_value(
     alloc: Global,
-    here: &Here<'_>,
+    here: &Here<'_, '_>,
     body: u32,
     values: &BodyValues,
     next: &Wire,
@@ -132,17 +132,17 @@ fn new_value(
 /// What the body makes of what a live reference refers to.
 fn placement(
     alloc: Global,
-    here: &Here<'_>,
+    here: &Here<'_, '_>,
     place: &Place<'_>,
     reference: &Reference<'_>,
     elem: &Ty,
     live: Live,
-    values: &BodyValues,
+    values: BodyValues,
 ) -> Result<Placement, AllocError>
-    requires { (h : effects.Here) × (IsHere here.now h × GivesProper h place.now (reader_at h.vi place.now.body values.now)) }
-    ensures { IfOk result (λ q. (h : effects.Here) (e : Node) (v : Item) → IsHere here.now h → place.now.first ≡ e.line + 1 → reader_at h.vi place.now.body values.now ≡ reader_of h place.now.first place.now.lines.now place.now.body place.now.finish v → q ≡ requests.placement h e place.now.lines.now place.now.body place.now.finish (seen_reference reference.now) elem.now live v) }
+    requires { (h : effects.Here) × (IsHere here.now h × GivesProper h place.now (reader_at h.vi place.now.body values)) }
+    ensures { IfOk result (λ q. (h : effects.Here) (e : Node) (v : Item) → IsHere here.now h → place.now.first ≡ e.line + 1 → reader_at h.vi place.now.body values ≡ reader_of h place.now.first place.now.lines.now place.now.body place.now.finish v → q ≡ requests.placement h e place.now.lines.now place.now.body place.now.finish (seen_reference reference.now) elem.now live v) }
 {
-    let value = new_value(alloc, here, place.body, values, reference.next, elem)?;
+    let value = new_value(alloc, here, place.body, &values, reference.next, elem)?;
     let outputs = others(alloc, here, place, values)?;
     let same = same_reference(alloc, here, reference)?;
     let places = places_of(alloc, place, reference.code)?;
@@ -156,14 +156,14 @@ fn placement(
     })
 }
 
-fn object_at<'a>(here: &Here<'a>, number: u32) -> Option<&'a Object>
+fn object_at<'a>(here: &Here<'a, '_>, number: u32) -> Option<&'a Object>
     ensures { (h : effects.Here) → IsHere here.now h → option_copied result ≡ slice_get h.objects number }
 {
     here.state.objects().get(number as usize)
 }
 
 /// What a live reference refers to, where its object is a value.
-fn referred_to(alloc: Global, here: &Here<'_>, live: Live) -> Result<Option<Value>, AllocError>
+fn referred_to(alloc: Global, here: &Here<'_, '_>, live: Live) -> Result<Option<Value>, AllocError>
     ensures { IfOk result (λ v. (h : effects.Here) → IsHere here.now h → v ≡ option_and_then (λ c. given_to c live.serial) (slice_get h.objects live.object)) }
 {
     match object_at(here, live.object) {
@@ -174,7 +174,7 @@ fn referred_to(alloc: Global, here: &Here<'_>, live: Live) -> Result<Option<Valu
 
 fn live_place(
     alloc: Global,
-    here: &Here<'_>,
+    here: &Here<'_, '_>,
     place: &Place<'_>,
     reference: &Reference<'_>,
     elem: &Ty,
@@ -187,13 +187,13 @@ fn live_place(
         return Ok(None);
     };
     let values = values_by(alloc, here, place, referred)?;
-    let placement = placement(alloc, here, place, reference, elem, live, &values)?;
+    let placement = placement(alloc, here, place, reference, elem, live, values)?;
     Ok(Some(Plan::Placement(placement)))
 }
 
 fn by_cell(
     alloc: Global,
-    here: &Here<'_>,
+    here: &Here<'_, '_>,
     place: &Place<'_>,
     reference: &Reference<'_>,
     cell: &RefValue,
@@ -210,7 +210,7 @@ fn by_cell(
 /// By the reference that a value is. One by any other value can't be done.
 fn by_value(
     alloc: Global,
-    here: &Here<'_>,
+    here: &Here<'_, '_>,
     place: &Place<'_>,
     reference: &Reference<'_>,
     from: &Value,
@@ -232,7 +232,7 @@ fn by_value(
 
 fn by_reference(
     alloc: Global,
-    here: &Here<'_>,
+    here: &Here<'_, '_>,
     place: &Place<'_>,
     reference: &Reference<'_>,
 ) -> Result<Option<Plan>, AllocError>
@@ -245,10 +245,17 @@ fn by_reference(
     Ok(plan)
 }
 
+/// The next line. One of 2^32 or more is told as want of memory, since no listing has it.
+fn next(line: u32) -> Result<u32, AllocError>
+    ensures { IfOk result (λ n. n ≡ line + 1) }
+{
+    line.checked_add(1).ok_or(AllocError)
+}
+
 /// What a structure in place does. Only want of memory refuses it, as which a line of 2^32 or more is told too.
 pub fn place_plan(
     alloc: Global,
-    here: &Here<'_>,
+    here: &Here<'_, '_>,
     entry: &Entry<'_>,
     lines: &[Tunnel],
     body: u32,
@@ -257,7 +264,7 @@ pub fn place_plan(
     requires { (h : effects.Here) × (IsHere here.now h × (FitsPlace h (seen entry.now) lines.now body finish (border.reference_in (entry.now.line + 1) lines.now) × PlaceNeeds h (seen entry.now) lines.now body finish)) }
     ensures { IfOk result (λ plan. (h : effects.Here) → IsHere here.now h → plan ≡ spec.place_plan h (seen entry.now) lines.now body finish (border.reference_in (entry.now.line + 1) lines.now)) }
 {
-    let first = entry.line.checked_add(1).ok_or(AllocError)?;
+    let first = next(entry.line)?;
     let place = Place {
         first,
         lines,
@@ -266,6 +273,9 @@ pub fn place_plan(
     };
     match reference_in(first, lines)? {
         Some(reference) => by_reference(alloc, here, &place, &reference),
-        None => Ok(Some(plain_place(alloc, here, &place)?)),
+        None => {
+            let plan = plain_place(alloc, here, &place)?;
+            Ok(Some(plan))
+        }
     }
 }
