@@ -1,5 +1,5 @@
 -- What a structure in place needs, by what its reference is.
-use Rattle.std.proofs.Common.{◌≡◌, ℕ, ◌+◌, List, [], ◌∷◌, refl, sym, ap, ◌∙◌, subst, slice_get}
+use Rattle.std.proofs.Common.{◌≡◌, ℕ, ◌+◌, refl, sym, subst, slice_get}
 use Rattle.std.specs.Prelude.{Option, Some, None}
 use Rattle.std.specs.List.{All}
 use Rattle.std.specs.Option.{option_and_then}
@@ -41,16 +41,23 @@ pub live_ready : (c : code.Here) (p : Place) (l : Live) (v : Value) → (h : Her
     (h : Here) × (IsHere c h × (BodyFits h p v × OutputsFit h p v))
 live_ready c p l v fits is =
     let h = fits.0 in
-    let named = named_in (slice_get h.objects l.object) l.serial v (is h fits.1.0) in
-    (h, (fits.1.0, (subst (λ (x : Value). BodyFits h p x) named.1.1 (fits.1.1.body named.0 named.1.0),
-    subst (λ (x : Value). OutputsFit h p x) named.1.1 (fits.1.1.outputs named.0 named.1.0))))
+    let named = named_in (slice_get h.objects l.object) l.serial v (is h fits.1.0) in (
+      h,
+      (
+        fits.1.0,
+        (
+          subst (λ (x : Value). BodyFits h p x) named.1.1 (fits.1.1.body named.0 named.1.0),
+          subst (λ (x : Value). OutputsFit h p x) named.1.1 (fits.1.1.outputs named.0 named.1.0),
+        ),
+      ),
+    )
 
 -- ---- by what a reference is
 
 pub live_fits : (h : Here) (p : Place) (r : RefValue) (l : Live) → r.at ≡ Some l → PlaceFits h p (Value-F.Cell r) → LiveFits h p l
 live_fits h p r l at fits = record {
   body = λ c named.
-    fits.body (value_for c l.serial) (subst (λ (o : Option Live). IsReferredBy h.objects r.elem o (value_for c l.serial)) (sym at) (content.Cell c, (named, refl)));
+      fits.body (value_for c l.serial) (subst (λ (o : Option Live). IsReferredBy h.objects r.elem o (value_for c l.serial)) (sym at) (content.Cell c, (named, refl)));
   outputs = λ c named. fits.outputs l c at named;
 }
 
@@ -90,5 +97,5 @@ pub reference_fits : (h : Here) (e : Entry) (p : Place) (r : Reference) → p.fi
 reference_fits h e p r at is fits needs = record {
   body = λ v referred. body_at h e p (Some r) v at is needs referred;
   outputs =
-    outputs_by h e p r at (out-Value (value_on h.outer r.from)) (subst (λ (o : Option Reference). FitsPlace h e p.lines.now p.body p.finish o) (sym is) fits);
+      outputs_by h e p r at (out-Value (value_on h.outer r.from)) (subst (λ (o : Option Reference). FitsPlace h e p.lines.now p.body p.finish o) (sym is) fits);
 }

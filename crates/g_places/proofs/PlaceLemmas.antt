@@ -7,7 +7,7 @@ use Rattle.g_prims_definitions.specs.Arithmetic.{nothing}
 use Rattle.g_diagram.specs.declared.node.Tunnel.{Tunnel}
 use Rattle.g_border.specs.Readers.{Reader}
 use Rattle.g_border.specs.Loops.{kept_registers}
-use Rattle.g_border.specs.Lines.{entering, Entering}
+use Rattle.g_border.specs.Lines.{entering}
 use Rattle.g_frames.specs.Effects.{Here}
 use Rattle.g_frames.specs.Structures.{kept_at}
 use Rattle.g_wire_values.specs.declared.wires.Wires.{Wires}

@@ -1,4 +1,4 @@
-use Rattle.std.proofs.Common.{rules, ◌≡◌, refl}
+use Rattle.std.proofs.Common.{refl}
 use Rattle.std.specs.Option.{option_map_or}
 use Rattle.g_prims_definitions.specs.Arithmetic.{nothing}
 use Rattle.g_border.specs.Lines.{entering}

@@ -1,4 +1,4 @@
-use Rattle.std.proofs.Common.{rules, ◌≡◌, ◌∙◌, ap, refl}
+use Rattle.std.proofs.Common.{◌∙◌, ap, refl}
 use Rattle.g_vi_tables.specs.Tables.{reader_at}
 use Rattle.g_places.specs.Places.{leaving_of}
 use Rattle.g_places.proofs.PlaceLemmas.{leaves}

@@ -1,4 +1,3 @@
-use Rattle.std.proofs.Common.{rules, sym}
 use Rattle.g_places.proofs.FitLemmas.{live_fits, null_fits}
 use Rattle.g_places.proofs.plan.by_cell.Goals as goal
 

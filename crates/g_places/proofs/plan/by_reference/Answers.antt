@@ -1,4 +1,4 @@
-use Rattle.std.proofs.Common.{rules, ◌≡◌, ◌∙◌, ap}
+use Rattle.std.proofs.Common.{◌∙◌, ap}
 use Rattle.g_values.specs.declared.value.Value.{out-Value}
 use Rattle.g_border.specs.Readers.{value_on}
 use Rattle.g_crossing.specs.Crossing.{seen_reference}

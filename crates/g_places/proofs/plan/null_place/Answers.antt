@@ -1,4 +1,4 @@
-use Rattle.std.proofs.Common.{rules, sym, subst}
+use Rattle.std.proofs.Common.{sym, subst}
 use Rattle.g_values.specs.declared.value.Value.{Value}
 use Rattle.g_places.specs.Places.{IsReady}
 use Rattle.g_places.proofs.plan.null_place.Goals as goal
