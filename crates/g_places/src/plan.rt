@@ -1,8 +1,7 @@
 //! What a structure in place does, by what its reference names.
 
-ghost use Rattle.std.specs.Prelude.{◌≡◌, ◌+◌, ◌∷◌, ◌++◌, [], IfOk};
+ghost use Rattle.std.specs.Prelude.{◌≡◌, ◌+◌, ◌∷◌, ◌++◌, [], slice_get, IfOk};
 ghost use Rattle.std.specs.Option.{option_and_then, option_copied};
-ghost use Rattle.std.specs.Prelude.{slice_get};
 ghost use Rattle.g_prims_definitions.specs.Arithmetic.{nothing};
 ghost use Rattle.g_values.specs.Coerce.{coerced};
 ghost use Rattle.g_values.specs.Default.{default};
@@ -156,6 +155,7 @@ fn placement(
     })
 }
 
+/// The object of a number, if there is one.
 fn object_at<'a>(here: &Here<'a, '_>, number: u32) -> Option<&'a Object>
     ensures { (h : effects.Here) → IsHere here.now h → option_copied result ≡ slice_get h.objects number }
 {
@@ -172,6 +172,7 @@ fn referred_to(alloc: Global, here: &Here<'_, '_>, live: Live) -> Result<Option<
     }
 }
 
+/// Where the object is a value, the body makes a new one of what the reference refers to.
 fn live_place(
     alloc: Global,
     here: &Here<'_, '_>,
@@ -191,6 +192,7 @@ fn live_place(
     Ok(Some(Plan::Placement(placement)))
 }
 
+/// By a reference to a value.
 fn by_cell(
     alloc: Global,
     here: &Here<'_, '_>,
@@ -230,6 +232,7 @@ fn by_value(
     }
 }
 
+/// By what is on the wire of the structure's reference.
 fn by_reference(
     alloc: Global,
     here: &Here<'_, '_>,
