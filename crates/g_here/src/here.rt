@@ -18,16 +18,17 @@ use g_wire_values::Wires;
 use std::alloc::{AllocError, Global};
 
 /// A node's frame with its VI's look-ups, in a state of a program.
-pub struct Here<'a> {
-    pub tables: &'a ProgramTables<'a>,
+#[derive(Drop)]
+pub struct Here<'a, 'm> {
+    pub tables: &'a ProgramTables<'m>,
     pub state: &'a FireState,
     pub frame: &'a Frame,
-    pub table: &'a ViTable<'a>,
+    pub table: &'a ViTable<'m>,
     /// Whether the limit leaves room for an iteration.
     pub has_room: bool,
 }
 
-impl<'a> Here<'a> {
+impl<'a, 'm> Here<'a, 'm> {
     /// The values on the wires around the node.
     pub fn outer(&self) -> Wires<'a>
         ensures { (h : effects.Here) → IsHere self.now h → reader result ≡ h.outer }

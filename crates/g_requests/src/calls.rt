@@ -47,7 +47,7 @@ fn request(object: usize, operation: Operation, choice: u64, follow: Then) -> Re
 }
 
 /// The call takes a clone.
-fn enters(here: &Here<'_>, vi: u32, clone: u64) -> Request
+fn enters(here: &Here<'_, '_>, vi: u32, clone: u64) -> Request
     ensures { (h : effects.Here) → IsHere here.now h → result ≡ spec.enters h vi clone }
 {
     let object = here.tables.pool_object(vi);
@@ -62,7 +62,7 @@ fn enters(here: &Here<'_>, vi: u32, clone: u64) -> Request
 /// The panel of the data space of the call's clone opens, with the call's arguments.
 fn panel_opens(
     alloc: Global,
-    here: &Here<'_>,
+    here: &Here<'_, '_>,
     call: &Called<'_>,
     clone: u8,
     space: u32,
@@ -87,7 +87,7 @@ fn panel_opens(
 }
 
 /// The data space of the call's clone, if there is that clone.
-fn space_in(here: &Here<'_>, call: &Called<'_>, clone: u8) -> Option<u32>
+fn space_in(here: &Here<'_, '_>, call: &Called<'_>, clone: u8) -> Option<u32>
     ensures { (h : effects.Here) → IsHere here.now h → result ≡ spec.space_in h call.now.line call.now.vi clone call.now.clones }
 {
     here.tables
@@ -96,7 +96,7 @@ fn space_in(here: &Here<'_>, call: &Called<'_>, clone: u8) -> Option<u32>
 
 fn opens(
     alloc: Global,
-    here: &Here<'_>,
+    here: &Here<'_, '_>,
     call: &Called<'_>,
     clone: u8,
 ) -> Result<Option<Request>, AllocError>
@@ -120,7 +120,7 @@ fn after_return(clones: Clones) -> Then
 }
 
 /// The call gives what the indicators have.
-fn returns(here: &Here<'_>, clones: Clones, space: u32) -> Request
+fn returns(here: &Here<'_, '_>, clones: Clones, space: u32) -> Request
     ensures { (h : effects.Here) → IsHere here.now h → result ≡ spec.returns h clones space }
 {
     let object = here.tables.panel_object(space);
@@ -133,7 +133,7 @@ fn returns(here: &Here<'_>, clones: Clones, space: u32) -> Request
 }
 
 /// The call gives what the indicators have, once its frame is complete.
-fn frame_returns(here: &Here<'_>, call: &Called<'_>, clone: u8, frame: u64) -> Option<Request>
+fn frame_returns(here: &Here<'_, '_>, call: &Called<'_>, clone: u8, frame: u64) -> Option<Request>
     ensures { (h : effects.Here) → IsHere here.now h → result ≡ spec.frame_returns h call.now.line call.now.vi clone call.now.clones frame }
 {
     if !here.is_complete_at(frame) {
@@ -146,7 +146,7 @@ fn frame_returns(here: &Here<'_>, call: &Called<'_>, clone: u8, frame: u64) -> O
 }
 
 /// The call frees its clone.
-fn leaves(here: &Here<'_>, vi: u32, clone: u8) -> Request
+fn leaves(here: &Here<'_, '_>, vi: u32, clone: u8) -> Request
     ensures { (h : effects.Here) → IsHere here.now h → result ≡ spec.leaves h vi clone }
 {
     let object = here.tables.pool_object(vi);
@@ -161,7 +161,7 @@ fn leaves(here: &Here<'_>, vi: u32, clone: u8) -> Request
 /// A call's first firing: a choice stands where it takes a clone of a pool, and there alone.
 fn begins(
     alloc: Global,
-    here: &Here<'_>,
+    here: &Here<'_, '_>,
     call: &Called<'_>,
     choice: Option<u64>,
 ) -> Result<Option<Request>, AllocError>
@@ -180,7 +180,7 @@ fn begins(
 
 fn goes_on(
     alloc: Global,
-    here: &Here<'_>,
+    here: &Here<'_, '_>,
     call: &Called<'_>,
     clone: u8,
     stage: Stage,
@@ -198,7 +198,7 @@ fn goes_on(
 
 fn by_progress(
     alloc: Global,
-    here: &Here<'_>,
+    here: &Here<'_, '_>,
     call: &Called<'_>,
     choice: Option<u64>,
     progress: &Progress,
@@ -224,7 +224,7 @@ fn by_progress(
 /// What a call on a line asks for, with its choice of a clone. Only want of memory refuses it.
 pub fn call_plan(
     alloc: Global,
-    here: &Here<'_>,
+    here: &Here<'_, '_>,
     line: u32,
     name: &[u8],
     inputs: &[Wire],

@@ -17,7 +17,7 @@ use g_types::Ty;
 use g_values::{Value, coerce};
 use std::alloc::{AllocError, Global};
 
-fn on_own_panel(here: &Here<'_>, operation: PanelOp) -> Plan
+fn on_own_panel(here: &Here<'_, '_>, operation: PanelOp) -> Plan
     ensures { (h : effects.Here) → IsHere here.now h → result ≡ spec.on_own_panel h operation }
 {
     let object = here.tables.panel_object(here.frame.space);
@@ -27,7 +27,7 @@ fn on_own_panel(here: &Here<'_>, operation: PanelOp) -> Plan
 /// A wired indicator sets its cell to the wire's value in its type. Only want of memory refuses it.
 pub fn shows(
     alloc: Global,
-    here: &Here<'_>,
+    here: &Here<'_, '_>,
     name: &[u8],
     ty: &Ty,
     input: &Wire,
@@ -52,7 +52,12 @@ fn coerced_to(ty: Option<&Ty>, value: Value) -> Value
 
 /// A `write` sets the cell of a control or indicator to the wire's value in its type. Only want of memory
 /// refuses it.
-pub fn writes(alloc: Global, here: &Here<'_>, name: &[u8], input: &Wire) -> Result<Plan, AllocError>
+pub fn writes(
+    alloc: Global,
+    here: &Here<'_, '_>,
+    name: &[u8],
+    input: &Wire,
+) -> Result<Plan, AllocError>
     ensures { IfOk result (λ plan. (h : effects.Here) → IsHere here.now h → plan ≡ spec.writes h name.now input.now) }
 {
     let wires = here.outer();
@@ -62,7 +67,7 @@ pub fn writes(alloc: Global, here: &Here<'_>, name: &[u8], input: &Wire) -> Resu
 }
 
 /// A `read` gives the value of the cell of a control or indicator. Takes no memory.
-pub fn reads(here: &Here<'_>, name: &[u8]) -> Plan
+pub fn reads(here: &Here<'_, '_>, name: &[u8]) -> Plan
     ensures { (h : effects.Here) → IsHere here.now h → result ≡ spec.reads h name.now }
 {
     let cell = here.table.cell_number(name);
@@ -70,7 +75,7 @@ pub fn reads(here: &Here<'_>, name: &[u8]) -> Plan
 }
 
 /// An `obtain` makes the queue of its name live, unless it is, and gives its reference. Takes no memory.
-pub fn obtains(here: &Here<'_>, queue: &[u8]) -> Plan
+pub fn obtains(here: &Here<'_, '_>, queue: &[u8]) -> Plan
     ensures { (h : effects.Here) → IsHere here.now h → result ≡ spec.obtains h queue.now }
 {
     let object = here.tables.queue_object(queue);

@@ -187,7 +187,7 @@ fn by_reference(
 }
 
 /// A `newref` makes the reference of its own place.
-fn makes(here: &Here<'_>, line: u32, value: Value) -> Plan
+fn makes(here: &Here<'_, '_>, line: u32, value: Value) -> Plan
     ensures { (h : effects.Here) → IsHere here.now h → result ≡ spec.makes h line value }
 {
     let object = here.tables.cell_object(here.frame.space, line);
@@ -209,7 +209,7 @@ fn by_value(
 /// An operation by the reference that the first input is.
 fn by_inputs(
     alloc: Global,
-    here: &Here<'_>,
+    here: &Here<'_, '_>,
     entry: &Entry<'_>,
     operation: SharedOp,
     inputs: &[Wire],
@@ -224,7 +224,12 @@ fn by_inputs(
 }
 
 /// A `newref` refers to its input.
-fn by_newref(alloc: Global, here: &Here<'_>, line: u32, inputs: &[Wire]) -> Result<Plan, AllocError>
+fn by_newref(
+    alloc: Global,
+    here: &Here<'_, '_>,
+    line: u32,
+    inputs: &[Wire],
+) -> Result<Plan, AllocError>
     ensures { IfOk result (λ plan. (h : effects.Here) → IsHere here.now h → plan ≡ spec.makes h line (input_at (map (value_on h.outer) inputs.now) 0)) }
 {
     let wires = here.outer();
@@ -236,7 +241,7 @@ fn by_newref(alloc: Global, here: &Here<'_>, line: u32, inputs: &[Wire]) -> Resu
 /// nothing is asked: the node is done with what there is to give. Only want of memory refuses it.
 pub fn shared_plan(
     alloc: Global,
-    here: &Here<'_>,
+    here: &Here<'_, '_>,
     entry: &Entry<'_>,
     operation: SharedOp,
     inputs: &[Wire],

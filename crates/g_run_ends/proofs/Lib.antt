@@ -1,0 +1,4 @@
+pub mod EndLemmas
+pub mod PrintLemmas
+pub mod ScanLemmas
+pub mod TableLemmas

@@ -1,0 +1,4 @@
+pub mod Needs
+pub mod Replays
+pub mod Runs
+pub mod Scans
