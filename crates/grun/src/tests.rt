@@ -41,6 +41,21 @@ const UNCOVERED: &str =
 const CASE: &str =
     "glisting 1\nvi Main\ncontrol a bool -> a\nindicator r i32 <- r\ncase a\nresult r\nwhen FALSE\ngive v\nconst i32 5 -> v\nwhen TRUE\ngive v\nconst i32 6 -> v\nend\nend\n";
 
+const SUM: &str =
+    "glisting 1\nvi Main\ncontrol n i32 -> n\nindicator total i32 <- total\nindicator squares [i32] <- squares\nconst i32 0 -> zero\nfor n -> i\nregister zero -> sum | more -> total\ngather square -> squares\ndo\ninc i -> k\nadd sum k -> more\nmul k k -> square\nend\nend\n";
+
+const ENDLESS: &str =
+    "glisting 1\nvi Main\nindicator k i32 <- k\nwhile stop -> i\nlast i -> k\ndo\nconst bool FALSE -> stop\nend\nend\n";
+
+const QUEUE: &str =
+    "glisting 1\nvi Main\ncontrol n i32 -> n\nindicator total i32 <- total\nobtain \"numbers\" 2 i32 -> q\nconst i32 0 -> zero\nfor n -> i\ntunnel q -> to\ndo\nenqueue to i -> _\nend\nfor n -> _\ntunnel q -> from\nregister zero -> sum | more -> total\ndo\ndequeue from -> item _\nadd sum item -> more\nend\nend\n";
+
+const STALLED: &str =
+    "glisting 1\nvi Main\nindicator v i32 <- v\nobtain \"orders\" -1 i32 -> q\ndequeue q -> v _\nend\n";
+
+const CALLS: &str =
+    "glisting 1\nvi Main\ncontrol x i32 -> x\nindicator twice i32 <- a\nindicator seven i32 <- b\nconst i32 7 -> seven\ncall Scaled x _ -> a\ncall Scaled x seven -> b\nend\nvi Scaled preallocated same\ncontrol value i32 -> value\ncontrol scale i32 = 2 -> scale\nindicator result i32 <- result\nmul value scale -> result\nend\n";
+
 const BROKEN: &str =
     "glisting 1\nvi Main nonreentrant same\n  control a i32 -> a\n  indicator r i32 <- w\n  indicator s i32 <- t\n  add a w -> w\nend\n";
 
@@ -60,8 +75,8 @@ fn calls(rt: &HostRuntime, fails: &[u64]) -> Result<CallList, AllocError> {
 }
 
 /// Makes the call with a source that fails at these calls, and a sink that fails at those; compares
-/// the status, what was written, and whether there is a trace: a run that comes to its end has one, and
-/// no other call here.
+/// the status, what was written, and whether there is a trace: a run that comes to its end, stalls or spends
+/// its limit has one, and no other call here.
 fn answers(
     rt: &HostRuntime,
     call: (&str, &str),
@@ -74,7 +89,8 @@ fn answers(
     let room = Bytes::from_vec(vec![in rt.alloc(); b'.'; 128]?);
     let mut sink = MemorySink::new(16, calls(rt, fails.1)?, room);
     let outcome = grun_call(rt.alloc(), &words, &mut source, &mut sink);
-    let fired = wanted.0 == 0 && call.0.starts_with("run ");
+    let at_rest = wanted.0 == 0 || wanted.0 == 5 || wanted.0 == 6;
+    let fired = at_rest && call.0.starts_with("run ");
     Ok(
         outcome.status == wanted.0
             && sink.written() == wanted.1.as_bytes()
@@ -111,7 +127,8 @@ fn answers_each_call(rt: HostRuntime) -> Result<(), Fail> {
         (("run Main", WIDE), (3, "Main:2.0 rule 15\n")),
         (("run Main", OWN), (0, "r = 5\n")),
         (("run Main", ARRAYS), (0, "n = 5000\n")),
-        (("run Main c=1", CASE), (12, "not built\n")),
+        (("run Main c=1", CASE), (4, "control at word 3\n")),
+        (("run Main a=TRUE", CASE), (0, "r = 6\n")),
         (("check Main", CASE), (0, "ok\n")),
         (("check Main", UNCOVERED), (3, "Main:3.0 rule 18\n")),
         (("check Other", ADD), (3, "Other:0.0 rule 9\n")),
@@ -122,6 +139,29 @@ fn answers_each_call(rt: HostRuntime) -> Result<(), Fail> {
         (("run Main c=1", ADD), (4, "control at word 3\n")),
         (("run Main a=1 a=1", ADD), (4, "control at word 4\n")),
         (("run Main a=2147483648", ADD), (4, "control at word 3\n")),
+    ];
+    for (call, wanted) in cases {
+        assert_eq!(rt; answers(&rt, call, (no, no), wanted)?, true);
+    }
+    Ok(())
+}
+
+#[test]
+fn runs_structures(rt: HostRuntime) -> Result<(), Fail> {
+    let no: &[u64] = &[];
+    let cases = [
+        (
+            ("run Main n=4", SUM),
+            (0, "total = 10\nsquares = [1, 4, 9, 16]\n"),
+        ),
+        (("run Main n=0", SUM), (0, "total = 0\nsquares = []\n")),
+        (("run Main n=5", QUEUE), (0, "total = 10\n")),
+        (("run Main x=5", CALLS), (0, "twice = 10\nseven = 35\n")),
+        (("run Main", STALLED), (5, "v = 0\nstalled\nwaiting 0 3\n")),
+        (
+            ("run Main --iterations 10", ENDLESS),
+            (6, "k = 0\nspent 10\n"),
+        ),
     ];
     for (call, wanted) in cases {
         assert_eq!(rt; answers(&rt, call, (no, no), wanted)?, true);
