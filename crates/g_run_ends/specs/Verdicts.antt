@@ -1,4 +1,4 @@
--- What a scan of all nodes finds, and what it tells of the end of a run.
+-- Inner: what a scan of all nodes finds, and what it tells of the end of a run.
 use Rattle.std.specs.Prelude.{ℕ, Bool, ◌&&◌, not, List, [], ◌∷◌, ◌++◌, Option, is_some, codes, if◌then◌else◌}
 use Rattle.std.specs.List.{list_any}
 use Rattle.std.specs.Fmt.{decimal}

@@ -1,4 +1,4 @@
--- The search for a node that can fire, where the limit leaves room for an iteration or not.
+-- Inner: the search for a node that can fire, where the limit leaves room for an iteration or not.
 use Rattle.std.specs.Prelude.{◌≡◌, ℕ, Bool, true, false, Option, Some, None, is_some}
 use Rattle.std.specs.List.{list_any}
 use Rattle.g_diagram.specs.Lines.{Entry}
@@ -27,3 +27,8 @@ Picks p has_room s any (Some x) = (any ≡ true) × (is_some (effect_with p has_
 abbrev pub Finds : Program → (has_room : Bool) → FireState → (any : Bool) → Option Firing → Type 0
 Finds p has_room s any None = any ≡ false
 Finds p has_room s any (Some x) = is_some (effect_with p has_room s x) ≡ true
+
+-- a firing that is found can be done
+abbrev pub IsSound : Program → (has_room : Bool) → FireState → Option Firing → Type 0
+IsSound p has_room s None = Unit {0}
+IsSound p has_room s (Some x) = is_some (effect_with p has_room s x) ≡ true

@@ -7,7 +7,7 @@ ghost use Rattle.g_program.specs.Tables.{IsTableOf};
 ghost use Rattle.g_runs.specs.Needs.{Lasts, RunNeeds};
 ghost use Rattle.g_runs.specs.Runs.{Goes, HasRun};
 
-use crate::scan::find;
+use crate::scan::find_first;
 use g_firing::fire;
 use g_frames::{End, Firing, Trace};
 use g_program::ProgramTables;
@@ -34,7 +34,7 @@ fn next(
     requires { (p : Program) × (IsTableOf p tables.now × Lasts p state.old) }
     ensures { IfOk result (λ fired. (p : Program) → IsTableOf p tables.now → Goes p state.old fired state.new) }
 {
-    match find(alloc, state, tables, state.has_room())? {
+    match find_first(alloc, state, tables, state.has_room())? {
         Some(firing) => {
             let _is_fired = fire(alloc, state, tables, firing)?;
             Ok(Some(firing))

@@ -3,8 +3,8 @@ use Rattle.g_runs.proofs.ScanLemmas.{rests}
 use Rattle.g_runs.proofs.StepLemmas.{lasts_here}
 use Rattle.g_runs.proofs.whole.next.Goals as goal
 
-pub find-requires : goal.find-requires
-find-requires c = let r = c.requires in (r.0, (r.1.0, lasts_here r.0 c.args.state.now r.1.1))
+pub find_first-requires : goal.find_first-requires
+find_first-requires c = let r = c.requires in (r.0, (r.1.0, lasts_here r.0 c.args.state.now r.1.1))
 
 pub returns-in-None : goal.returns-in-None
 returns-in-None c = λ p are.

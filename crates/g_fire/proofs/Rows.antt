@@ -1,3 +1,0 @@
-pub mod Sums
-pub mod Types
-pub mod Primitives

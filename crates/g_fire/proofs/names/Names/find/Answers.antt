@@ -1,9 +1,0 @@
-use Rattle.std.proofs.Common.{ap, ◌∙◌}
-use Rattle.g_fire.specs.Names.{named}
-use Rattle.g_fire.proofs.NameLemmas.{lookup-named}
-use Rattle.g_fire.proofs.names.Names.find.Goals as goal
-
-pub returns : goal.returns
-returns c =
-    c.copied.ensures ∙ c.get.ensures.value ∙ lookup-named c.args.name.now c.self.inside.map.entries
-    ∙ ap (λ es. named es c.args.name.now) c.self.view_is

@@ -1,0 +1,4 @@
+mod PlanLemmas
+mod StandingLemmas
+mod FiredLemmas
+mod EnterLemmas

@@ -1,0 +1,4 @@
+pub mod Enters
+pub mod Firings
+pub mod Names
+pub mod Plans
