@@ -8,3 +8,4 @@ pub mod Plain
 pub mod Running
 pub mod Ordered
 pub mod Unique
+pub mod Examples

@@ -1,5 +1,5 @@
 -- That an answer is one: the words, the bytes and the trace of a run leave nothing open.
-use Rattle.std.proofs.Common.{◌≡◌, ◌≢◌, ◌⊎◌, ℕ, zero, suc, ◌+◌, ◌-◌, ◌<◌, ◌≤◌, List, [], ◌∷◌, ◌++◌, length, take, slice_get, inl, inr, Option, Some, None, codes, refl, sym, ap, ◌∙◌, subst, append_assoc, arith}
+use Rattle.std.proofs.Common.{◌≡◌, ◌≢◌, ◌⊎◌, ℕ, zero, suc, ◌-◌, ◌<◌, ◌≤◌, List, [], ◌∷◌, ◌++◌, length, take, slice_get, inl, inr, Option, Some, codes, refl, sym, ap, ◌∙◌, subst, append_assoc, arith}
 use Rattle.std.specs.Fmt.{decimal}
 use Rattle.std.proofs.lemmas.Bool.{cases_order}
 use Rattle.std.proofs.lemmas.List.{map-append}
@@ -11,7 +11,6 @@ use Rattle.g_values.specs.declared.value.Value.{Value}
 use Rattle.g_diagram.specs.declared.place.Break.{Break}
 use Rattle.g_diagram.specs.declared.hierarchy.Hierarchy.{Hierarchy}
 use Rattle.g_diagram.specs.declared.hierarchy.Vi.{Vi}
-use Rattle.g_diagram.specs.declared.panel.PanelItem.{PanelItem}
 use Rattle.g_diagram.specs.Text.{text_of}
 use Rattle.g_listing_grammar.specs.Listing.{HasHierarchy, IsListing, listing}
 use Rattle.g_listing.specs.Refusal.{IsFirstRefused, IsRefusal}
@@ -26,7 +25,7 @@ use Rattle.g_rules_breaks.specs.Breaks.{ListsEach}
 use Rattle.g_rules.specs.Checked.{IsBreak, IsUnbroken}
 use Rattle.g_hier.specs.Outlines.{number_of}
 use Rattle.g_frames.specs.declared.firing.Firing.{Firing}
-use Rattle.g_frames.specs.Program.{Program, IsProgram}
+use Rattle.g_frames.specs.Program.{Program}
 use Rattle.g_frames.specs.State.{FireState}
 use Rattle.g_frames.specs.Run.{after, end_of}
 use Rattle.g_frames.specs.Print.{print}

@@ -4,7 +4,6 @@ use Rattle.std.specs.List.{All}
 use Rattle.g_types.specs.declared.ty.Ty.{Ty}
 use Rattle.g_values.specs.declared.value.Value.{Value}
 use Rattle.g_values.specs.Proper.{IsProper}
-use Rattle.g_diagram.specs.declared.hierarchy.Vi.{Vi}
 use Rattle.g_diagram.specs.declared.panel.PanelItem.{PanelItem}
 use Rattle.g_frames.specs.declared.firing.Firing.{Firing}
 use Rattle.g_hier.specs.Outlines.{number_of}

@@ -2,7 +2,7 @@ use Rattle.std.proofs.Common.{◌≡◌, List, ◌∷◌, ◌++◌, [], ◌+◌,
 use Rattle.std.proofs.lemmas.List.{drop_more, take-append-drop, take_all}
 use Rattle.indexmap.proofs.CallerLemmas.{insert_entry-new}
 use Rattle.g_line.specs.declared.forms.Setting.{Setting}
-use Rattle.grun.specs.Settings.{Named, find, Give}
+use Rattle.grun.specs.Settings.{find, Give}
 use Rattle.grun.specs.Views.{seen_controls, types_in, values_in}
 use Rattle.grun.proofs.Finding.{find-value, some_of, none_of, values_in-more}
 use Rattle.grun.proofs.Giving.{value_known, give_more, wrong_here, front_more}
