@@ -1,5 +1,5 @@
--- Inner: the search for a node that can fire, where the limit leaves room for an iteration or not.
-use Rattle.std.specs.Prelude.{◌≡◌, ℕ, Bool, true, false, Option, Some, None, is_some}
+-- The search for a node that can fire, where the limit leaves room for an iteration or not.
+use Rattle.std.specs.Prelude.{◌≡◌, ℕ, Bool, true, false, Option, Some, None, is_some, ⊤}
 use Rattle.std.specs.List.{list_any}
 use Rattle.g_diagram.specs.Lines.{Entry}
 use Rattle.g_frames.specs.declared.firing.Firing.{Firing}
@@ -28,7 +28,7 @@ abbrev pub Finds : Program → (has_room : Bool) → FireState → (any : Bool) 
 Finds p has_room s any None = any ≡ false
 Finds p has_room s any (Some x) = is_some (effect_with p has_room s x) ≡ true
 
--- a firing that is found can be done
-abbrev pub IsSound : Program → (has_room : Bool) → FireState → Option Firing → Type 0
-IsSound p has_room s None = Unit {0}
-IsSound p has_room s (Some x) = is_some (effect_with p has_room s x) ≡ true
+-- what is found can be done; that nothing is found says nothing
+abbrev pub Hints : Program → (has_room : Bool) → FireState → Option Firing → Type 0
+Hints p has_room s None = ⊤
+Hints p has_room s (Some x) = is_some (effect_with p has_room s x) ≡ true

@@ -8,7 +8,7 @@ ghost use Rattle.g_frames.specs.Program.{Program, numbered, pool_object, vi_at};
 ghost use Rattle.g_frames.specs.Run.{all_nodes, choices_of, clones_in, frame_nodes, from_to};
 ghost use Rattle.g_program.specs.Tables.{IsTableOf};
 ghost use Rattle.g_runs.specs.Needs.{HasAllNeeds};
-ghost use Rattle.g_runs.specs.Scans.{Finds, IsSound, Picks, fires_with, goes_on, line_goes_on};
+ghost use Rattle.g_runs.specs.Scans.{Finds, Picks, fires_with, goes_on, line_goes_on};
 
 use g_diagram_table::{Entry, Kind};
 use g_firing::can_fire;
@@ -75,7 +75,7 @@ fn find_clone(
 }
 
 /// A firing of a node of a frame that can be done, where there is any.
-fn find_on_line(
+pub(crate) fn find_on_line(
     alloc: Global,
     state: &FireState,
     tables: &ProgramTables<'_>,
@@ -147,7 +147,7 @@ fn find_in_frame(
 }
 
 /// A firing that can be done, where there is any.
-fn find(
+pub(crate) fn find(
     alloc: Global,
     state: &FireState,
     tables: &ProgramTables<'_>,
@@ -164,85 +164,4 @@ fn find(
         }
     }
     Ok(None)
-}
-
-/// A firing that can be done in the newest frame, in the frame that opened it, or further out, where there is any: that
-/// is where a run most often goes on.
-fn find_newest(
-    alloc: Global,
-    state: &FireState,
-    tables: &ProgramTables<'_>,
-    has_room: bool,
-) -> Result<Option<Firing>, AllocError>
-    requires { (p : Program) × (IsTableOf p tables.now × HasAllNeeds p state.now) }
-    ensures { IfOk result (λ found. (p : Program) → IsTableOf p tables.now → IsSound p has_room state.now found) }
-{
-    let frames = state.frames();
-    let mut next = frames.len();
-    for _ in 0..frames.len() {
-        let Some(number) = next.checked_sub(1) else {
-            return Ok(None);
-        };
-        let Some(frame) = frames.get(number) else {
-            return Ok(None);
-        };
-        let found = find_in_frame(alloc, state, tables, has_room, number as u64, frame)?;
-        if found.is_some() {
-            return Ok(found);
-        }
-        next = after_opener(frame);
-    }
-    Ok(None)
-}
-
-/// One more than the number of the frame that opened a frame, or 0 where none did.
-fn after_opener(frame: &Frame) -> usize {
-    match frame.opener {
-        Some(opener) => (opener.frame as usize).saturating_add(1),
-        None => 0,
-    }
-}
-
-/// A firing that can be done in the newest frame that has any.
-fn find_backward(
-    alloc: Global,
-    state: &FireState,
-    tables: &ProgramTables<'_>,
-    has_room: bool,
-) -> Result<Option<Firing>, AllocError>
-    requires { (p : Program) × (IsTableOf p tables.now × HasAllNeeds p state.now) }
-    ensures { IfOk result (λ found. (p : Program) → IsTableOf p tables.now → IsSound p has_room state.now found) }
-{
-    let frames = state.frames();
-    for newer in 0..frames.len() {
-        let number = frames.len() - 1 - newer;
-        let frame = &frames[number];
-        let found = find_in_frame(alloc, state, tables, has_room, number as u64, frame)?;
-        if found.is_some() {
-            return Ok(found);
-        }
-    }
-    Ok(None)
-}
-
-/// A firing that can be done, where there is any: near the newest frame, else in the newest that has any.
-/// Frames are only added, so those are the ones that are seldom done.
-pub(crate) fn find_first(
-    alloc: Global,
-    state: &FireState,
-    tables: &ProgramTables<'_>,
-    has_room: bool,
-) -> Result<Option<Firing>, AllocError>
-    requires { (p : Program) × (IsTableOf p tables.now × HasAllNeeds p state.now) }
-    ensures { IfOk result (λ found. (p : Program) → IsTableOf p tables.now → Finds p has_room state.now (list_any (goes_on p has_room state.now) (all_nodes p state.now)) found) }
-{
-    let near = find_newest(alloc, state, tables, has_room)?;
-    if near.is_some() {
-        return Ok(near);
-    }
-    let newest = find_backward(alloc, state, tables, has_room)?;
-    if newest.is_some() {
-        return Ok(newest);
-    }
-    find(alloc, state, tables, has_room)
 }

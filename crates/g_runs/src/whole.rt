@@ -1,13 +1,15 @@
 //! A run until nothing can fire.
 
-ghost use Rattle.std.specs.Prelude.{◌≡◌, IfOk};
+ghost use Rattle.std.specs.Prelude.{◌≡◌, true, IfOk};
+ghost use Rattle.g_frames.specs.Fire.{can_fire};
 ghost use Rattle.g_frames.specs.Program.{Program};
 ghost use Rattle.g_frames.specs.Run as spec;
 ghost use Rattle.g_program.specs.Tables.{IsTableOf};
 ghost use Rattle.g_runs.specs.Needs.{Lasts, RunNeeds};
 ghost use Rattle.g_runs.specs.Runs.{Goes, HasRun};
 
-use crate::scan::find_first;
+use crate::agenda::{Agenda, find_hinted};
+use crate::scan::find;
 use g_firing::fire;
 use g_frames::{End, Firing, Trace};
 use g_program::ProgramTables;
@@ -25,20 +27,39 @@ pub struct Ran {
     pub end: End,
 }
 
-/// Fires one node, if any can fire.
+/// Does a firing that can be done.
+fn go(
+    alloc: Global,
+    state: &mut FireState,
+    tables: &ProgramTables<'_>,
+    agenda: &mut Agenda,
+    firing: Firing,
+) -> Result<Option<Firing>, AllocError>
+    requires { (p : Program) × (IsTableOf p tables.now × Lasts p state.old) }
+    ensures { IfOk result (λ fired. (p : Program) → IsTableOf p tables.now → can_fire p state.old firing ≡ true → Goes p state.old fired state.new) }
+{
+    let frames = state.frames().len();
+    let _is_fired = fire(alloc, state, tables, firing)?;
+    agenda.note(alloc, state, tables, firing, frames)?;
+    Ok(Some(firing))
+}
+
+/// Fires one node, if any can fire: one that the agenda hints at, where there is one.
 fn next(
     alloc: Global,
     state: &mut FireState,
     tables: &ProgramTables<'_>,
+    agenda: &mut Agenda,
 ) -> Result<Option<Firing>, AllocError>
     requires { (p : Program) × (IsTableOf p tables.now × Lasts p state.old) }
     ensures { IfOk result (λ fired. (p : Program) → IsTableOf p tables.now → Goes p state.old fired state.new) }
 {
-    match find_first(alloc, state, tables, state.has_room())? {
-        Some(firing) => {
-            let _is_fired = fire(alloc, state, tables, firing)?;
-            Ok(Some(firing))
-        }
+    let has_room = state.has_room();
+    if let Some(firing) = find_hinted(alloc, state, tables, has_room, agenda)? {
+        return go(alloc, state, tables, agenda, firing);
+    }
+    match find(alloc, state, tables, has_room)? {
+        Some(firing) => go(alloc, state, tables, agenda, firing),
         None => Ok(None),
     }
 }
@@ -70,9 +91,10 @@ pub fn run(
     ensures { IfOk result (λ ran. (p : Program) → IsTableOf p tables.now → HasRun p controls limit ran.trace ran.state ran.end) }
 {
     let mut state = start(alloc, tables, controls, limit)?;
+    let mut agenda = Agenda::new(alloc, &state, tables)?;
     let mut trace = Vec::new(alloc);
     for _ in 0..u64::MAX {
-        match next(alloc, &mut state, tables)? {
+        match next(alloc, &mut state, tables, &mut agenda)? {
             Some(firing) => trace.push(firing)?,
             None => return ended(alloc, tables, trace, state),
         }
