@@ -1,4 +1,4 @@
--- The search for a node that can fire, where the limit leaves room for an iteration or not.
+-- Inner: the search for a node that can fire, where the limit leaves room for an iteration or not.
 use Rattle.std.specs.Prelude.{◌≡◌, ℕ, Bool, true, false, Option, Some, None, is_some, ⊤}
 use Rattle.std.specs.List.{list_any}
 use Rattle.g_diagram.specs.Lines.{Entry}
